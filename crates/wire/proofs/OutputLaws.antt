@@ -33,6 +33,10 @@ unfolding overwrite written
 overwrite-next xs at bs cs e =
     rw (take-at bs (drop (length bs) xs) at e, ← e, drop-append-add bs (drop (length bs) xs) (length cs), drop-drop, length-append, append-assoc)
 
+-- a message in two writes, from the first byte on
+pub written-two : (xs hs bs : List ℕ) (at : ℕ) → length hs ≡ at → overwrite (overwrite xs 0 hs) at bs ≡ written (hs ++ bs) xs
+written-two xs hs bs at e = ap (λ (x : List ℕ). overwrite x at bs) (overwrite-front xs hs) ∙ overwrite-next xs at hs bs e
+
 -- two writes side by side are one
 pub overwrite-join : (xs : List ℕ) (at : ℕ) (bs cs : List ℕ) (to : ℕ) → at ≤ length xs → at + length bs ≡ to
     → overwrite (overwrite xs at bs) to cs ≡ overwrite xs at (bs ++ cs)
