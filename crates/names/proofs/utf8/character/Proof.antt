@@ -1,0 +1,95 @@
+use mathlib.Core.Path.{refl, _∙_}
+use mathlib.Core.List.{[], _∷_}
+use mathlib.Core.Option.{none, some}
+use native.Mathlib.Omega.{arith}
+use borrow.Author.Needs.{needs}
+use Rattle.names.specs.Utf8.{_to_, tail}
+use Rattle.names.proofs.Utf8Laws.{size-led, size-one}
+use Rattle.names.proofs.utf8.character.Statement.{statement}
+use Rattle.names.proofs.utf8.character.Tie as tie
+use Rattle.names.proofs.utf8.character.Reads as reads
+use Rattle.names.proofs.utf8.character.Lts as lts
+use Rattle.names.proofs.utf8.four.Reads as four-reads
+use Rattle.names.proofs.utf8.three.Reads as three-reads
+use Rattle.names.proofs.utf8.two.Reads as two-reads
+
+three-requires : tie.Need-three-requires
+three-requires c κs = search needs
+
+three-requires-2 : tie.Need-three-requires-2
+three-requires-2 c κs = search needs
+
+four-requires : tie.Need-four-requires
+four-requires c κs = search needs
+
+four-requires-2 : tie.Need-four-requires-2
+four-requires-2 c κs = search needs
+
+two-requires : tie.Need-two-requires
+two-requires c κs = search needs
+
+three-requires-3 : tie.Need-three-requires-3
+three-requires-3 c κs = search needs
+
+three-requires-4 : tie.Need-three-requires-4
+three-requires-4 c κs = search needs
+
+four-requires-3 : tie.Need-four-requires-3
+four-requires-3 c κs = search needs
+
+returns : tie.Need-returns
+returns c = c .three .ensures ∙ size-led (some (0xA0 to 0xBF ∷ tail ∷ [])) 0xE0 1 refl (c .before .before .before .args .b) (c .before .before .before .args .rest .now) (omega arith) (omega arith)
+
+returns-2 : tie.Need-returns-2
+returns-2 c = c .three2 .ensures ∙ size-led (some (0x80 to 0x9F ∷ tail ∷ [])) 0xED 1 refl (c .before .before .before .args .b) (c .before .before .before .args .rest .now) (omega arith) (omega arith)
+
+returns-3 : tie.Need-returns-3
+returns-3 c = c .four .ensures ∙ size-led (some (0x90 to 0xBF ∷ tail ∷ tail ∷ [])) 0xF0 1 refl (c .before .before .before .args .b) (c .before .before .before .args .rest .now) (omega arith) (omega arith)
+
+returns-4 : tie.Need-returns-4
+returns-4 c = c .four2 .ensures ∙ size-led (some (0x80 to 0x8F ∷ tail ∷ tail ∷ [])) 0xF4 1 refl (c .before .before .before .args .b) (c .before .before .before .args .rest .now) (omega arith) (omega arith)
+
+returns-5 : tie.Need-returns-5
+returns-5 c = size-one (c .before .before .before .args .rest .now) ∙ size-led (some []) 0x00 128 refl (c .before .before .before .args .b) (c .before .before .before .args .rest .now) (omega arith) (omega arith)
+
+returns-6 : tie.Need-returns-6
+returns-6 c = c .two .ensures ∙ size-led (some (tail ∷ [])) 0xC2 30 refl (c .before .before .before .before .before .before .args .b) (c .before .before .before .before .before .before .args .rest .now) (omega arith) (omega arith)
+
+returns-7 : tie.Need-returns-7
+returns-7 c = c .three3 .ensures ∙ size-led (some (tail ∷ tail ∷ [])) 0xE1 12 refl (c .before .before .before .before .before .before .before .args .b) (c .before .before .before .before .before .before .before .args .rest .now) (omega arith) (omega arith)
+
+returns-8 : tie.Need-returns-8
+returns-8 c = c .three4 .ensures ∙ size-led (some (tail ∷ tail ∷ [])) 0xEE 2 refl (c .before .before .before .before .before .before .before .before .args .b) (c .before .before .before .before .before .before .before .before .args .rest .now) (omega arith) (omega arith)
+
+returns-9 : tie.Need-returns-9
+returns-9 c = c .four3 .ensures ∙ size-led (some (tail ∷ tail ∷ tail ∷ [])) 0xF1 3 refl (c .before .before .before .before .before .before .before .before .before .args .b) (c .before .before .before .before .before .before .before .before .before .args .rest .now) (omega arith) (omega arith)
+
+returns-10 : tie.Need-returns-10
+returns-10 c = size-led (none) 0x80 66 refl (c .before .before .before .before .args .b) (c .before .before .before .before .args .rest .now) (omega arith) (omega arith)
+
+returns-11 : tie.Need-returns-11
+returns-11 c = size-led (none) 0xF5 11 refl (c .before .before .before .before .before .before .before .before .args .b) (c .before .before .before .before .before .before .before .before .args .rest .now) (omega arith) (omega arith)
+
+pub character-spec : {M : Type 1} → statement M
+character-spec =
+    tie.close
+    (tie.spec
+    three-requires
+    three-requires-2
+    four-requires
+    four-requires-2
+    two-requires
+    three-requires-3
+    three-requires-4
+    four-requires-3
+    returns
+    returns-2
+    returns-3
+    returns-4
+    returns-5
+    returns-6
+    returns-7
+    returns-8
+    returns-9
+    returns-10
+    returns-11)
