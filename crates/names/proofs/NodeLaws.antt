@@ -13,7 +13,7 @@ use lib.Dec.{eqb, leb}
 use borrow.Author.Tests.{leb-true, eq-eqb, ne-eqb}
 use Rattle.names.specs.Utf8.{Range, _to_, has, Row, State, table, begin, lead, run, ended, utf8, follow, size}
 use Rattle.names.specs.Node.{lacks, nodeText}
-use Rattle.names.proofs.Utf8Laws.{and-left, and-right, run-none}
+use Rattle.names.proofs.Utf8Laws.{and-left, and-right, and-false, run-none}
 
 -- ---- behind a character's first byte every byte is at least 128
 
@@ -99,10 +99,6 @@ at-char b bs (some rs) l e p q = by (follows rs bs e) where
   by : Whole rs bs ⊎ Broken rs bs → Passes (b ∷ bs) (size (some rs) bs) ⊎ ((size (some rs) bs ≡ 0) × (nodeText (b ∷ bs) ≡ false))
   by (inr w) = inr (rw (w .not-all), text-false (b ∷ bs) (rw l (w .refused)))
   by (inl w) = inl (record { some = rw (w .all) (omega arith); fits = rw (w .all) (omega (arith, w .fits)); same = rw (w .all, l, p, q, w .reads, w .lack 0 (omega arith), w .lack 64 (omega arith)) })
-
-and-false : (a b : Bool) → b ≡ false → a && b ≡ false
-and-false true b e = e
-and-false false b e = refl
 
 -- ---- the same, in the midst of a run
 

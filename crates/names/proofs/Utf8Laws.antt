@@ -18,6 +18,10 @@ pub and-right : (a b : Bool) → a && b ≡ true → b ≡ true
 and-right true b e = e
 and-right false b e = let z : _≡_ {A = ℕ} 0 1 = cc in absurd (omega arith)
 
+pub and-false : (a b : Bool) → b ≡ false → a && b ≡ false
+and-false true b e = e
+and-false false b e = refl
+
 -- ---- a test that antt computes at n numbers from lo holds at each of them
 
 abbrev pub all : (ℕ → Bool) → ℕ → ℕ → Bool
@@ -76,13 +80,13 @@ leads st lo n e b h k =
     let d : b - lo + lo ≡ b = omega arith in
     state-is (begin table b) st (ap (λ (x : ℕ). sameState (begin table x) st) (sym d) ∙ between (λ x. sameState (begin table x) st) lo n e (b - lo) (omega arith))
 
--- ---- a byte in a range, below it, above it
-
-pub has-yes : (lo hi b : ℕ) → lo ≤ b → b ≤ hi → has (lo to hi) b ≡ true
-has-yes lo hi b h k = rw (le-leb lo b h) (le-leb b hi k)
+-- ---- a byte below a range, above it
 
 pub has-below : (lo hi b : ℕ) → b < lo → has (lo to hi) b ≡ false
 has-below lo hi b h = rw (lt-leb lo b h)
+
+pub has-above : (lo hi b : ℕ) → hi < b → has (lo to hi) b ≡ false
+has-above lo hi b h = and-false (leb lo b) (leb b hi) (lt-leb b hi h)
 
 -- ---- the bytes behind the first
 
@@ -105,10 +109,7 @@ pub follow-short : (rs : Row) (xs : List ℕ) → length xs < length rs → foll
 unfolding follow
 follow-short [] xs h = absurd (omega arith)
 follow-short (r ∷ rs) [] h = refl
-follow-short (r ∷ rs) (x ∷ xs) h = by (has r x) (follow-short rs xs (omega arith)) where
-  by : (t : Bool) → follow rs xs ≡ false → t && follow rs xs ≡ false
-  by true e = e
-  by false e = refl
+follow-short (r ∷ rs) (x ∷ xs) h = and-false (has r x) (follow rs xs) (follow-short rs xs (omega arith))
 
 pub size-led : (st : State) (lo n : ℕ) → Leads st lo n → (b : ℕ) (xs : List ℕ) → lo ≤ b → b < lo + n → size st xs ≡ size (lead b) xs
 size-led st lo n e b xs h k = ap (λ (s : State). size s xs) (sym (leads st lo n e b h k))

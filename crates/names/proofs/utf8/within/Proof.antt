@@ -1,4 +1,4 @@
-use Rattle.names.proofs.Utf8Laws.{has-yes, has-below}
+use Rattle.names.proofs.Utf8Laws.{has-below}
 use borrow.Author.Tests.{le-leb}
 use Rattle.names.proofs.utf8.within.Statement.{statement}
 use Rattle.names.proofs.utf8.within.Tie as tie
