@@ -1,19 +1,20 @@
 -- Laws of a node's name: the rule at a character is the rule behind it.
-use Prim.Native.Nat.{ℕ, zero, suc, _+_, _-_, _≤_, _<_}
-use mathlib.Core.Path.{_≡_, refl, sym, ap, _∙_}
+use Prim.Native.Nat.{ℕ, _+_, _-_, _≤_, _<_}
+use mathlib.Core.Path.{_≡_, refl, ap, _∙_}
 use mathlib.Core.Logic.{_⊎_, inl, inr, ⊎-elim}
-use mathlib.Core.Bool.{Bool, true, false, cond, _&&_, not}
+use mathlib.Core.Bool.{Bool, true, false, cond, _&&_}
 use mathlib.Core.List.{List, [], _∷_}
-use mathlib.Core.Option.{Option, none, some}
+use mathlib.Core.Option.{none, some}
 use native.Mathlib.Numerals.{add-one}
 use native.Mathlib.Omega.{arith}
 use lib.ListN.{length, getD, take, drop, length-drop, drop-of-length-le}
-use lib.Seq.{drop-cons, drop-drop, take-all}
+use lib.Seq.{drop-cons, drop-drop}
 use lib.Dec.{eqb, leb}
 use borrow.Author.Tests.{leb-true, eq-eqb, ne-eqb}
 use Rattle.names.specs.Utf8.{Range, _to_, has, Row, State, table, begin, lead, run, ended, utf8, follow, size}
 use Rattle.names.specs.Node.{lacks, nodeText}
-use Rattle.names.proofs.Utf8Laws.{and-left, and-right, and-false, run-none}
+use Rattle.wire.proofs.RunLaws.{and-left, and-right, rest}
+use Rattle.names.proofs.Utf8Laws.{and-false, run-none}
 
 -- ---- behind a character's first byte every byte is at least 128
 
@@ -116,7 +117,7 @@ module _ (xs : List ℕ) (i : ℕ) (h : i < length xs) where
 
   module _ (z : getD xs i 0 ≡ 0 → ⊥) (s : getD xs i 0 ≡ 64 → ⊥) (k : ℕ) (e : k ≡ size (lead (getD xs i 0)) (take (length xs - (i + 1)) (drop (i + 1) xs))) where
     told : Passes (drop i xs) k ⊎ ((k ≡ 0) × (nodeText (drop i xs) ≡ false))
-    told = rw (here, e, take-all (length xs - (i + 1)) (drop (i + 1) xs) (omega (arith, length-drop (i + 1) xs))) (at-char (getD xs i 0) (drop (i + 1) xs) (lead (getD xs i 0)) refl (lead-high (getD xs i 0)) (ne-eqb (getD xs i 0) 0 z) (ne-eqb (getD xs i 0) 64 s))
+    told = rw (here, e, rest (i + 1) xs) (at-char (getD xs i 0) (drop (i + 1) xs) (lead (getD xs i 0)) refl (lead-high (getD xs i 0)) (ne-eqb (getD xs i 0) 0 z) (ne-eqb (getD xs i 0) 64 s))
 
     pub at-none : k ≡ 0 → nodeText (drop i xs) ≡ false
     at-none q = ⊎-elim (λ w. absurd (omega (arith, w .some))) (λ w. w .1) told

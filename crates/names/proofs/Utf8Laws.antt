@@ -1,22 +1,15 @@
 -- Laws of reading by the table of UTF-8.
 use Prim.Native.Nat.{ℕ, zero, suc, _+_, _-_, _≤_, _<_}
 use mathlib.Core.Path.{_≡_, refl, sym, ap, _∙_}
-use mathlib.Core.Bool.{Bool, true, false, cond, _&&_}
+use mathlib.Core.Bool.{Bool, true, false, _&&_}
 use mathlib.Core.List.{List, [], _∷_}
-use mathlib.Core.Option.{Option, none, some}
+use mathlib.Core.Option.{none, some}
 use native.Mathlib.Omega.{arith}
-use lib.ListN.{length, getD, drop}
+use lib.ListN.{length, getD}
 use lib.Dec.{eqb, leb}
-use borrow.Author.Tests.{eqb-true, le-leb, lt-leb}
-use Rattle.names.specs.Utf8.{Range, _to_, has, Row, State, table, begin, lead, step, run, ended, follow, size}
-
-pub and-left : (a b : Bool) → a && b ≡ true → a ≡ true
-and-left true b e = refl
-and-left false b e = e
-
-pub and-right : (a b : Bool) → a && b ≡ true → b ≡ true
-and-right true b e = e
-and-right false b e = let z : _≡_ {A = ℕ} 0 1 = cc in absurd (omega arith)
+use borrow.Author.Tests.{eqb-true, lt-leb}
+use Rattle.wire.proofs.RunLaws.{and-left, and-right}
+use Rattle.names.specs.Utf8.{Range, _to_, has, Row, State, table, begin, lead, run, follow, size}
 
 pub and-false : (a b : Bool) → b ≡ false → a && b ≡ false
 and-false true b e = e

@@ -3,9 +3,6 @@ use Rattle.names.specs.Node.{nodeName}
 use borrow.Author.Needs.{needs}
 use Rattle.names.proofs.node.is_node_name.Statement.{statement}
 use Rattle.names.proofs.node.is_node_name.Tie as tie
-use Rattle.names.proofs.node.is_node_name.Reads as reads
-use Rattle.names.proofs.node.is_node_name.Lts as lts
-use Rattle.names.proofs.node.is_node_text.Reads as is-node-text-reads
 
 returns : tie.Need-returns
 unfolding nodeName

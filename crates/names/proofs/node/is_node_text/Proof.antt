@@ -7,9 +7,6 @@ use Rattle.names.specs.Node.{nodeText}
 use Rattle.names.proofs.NodeLaws.{at-zero, at-sign, at-none, at-whole, text-end}
 use Rattle.names.proofs.node.is_node_text.Statement.{statement}
 use Rattle.names.proofs.node.is_node_text.Tie as tie
-use Rattle.names.proofs.node.is_node_text.Reads as reads
-use Rattle.names.proofs.node.is_node_text.Lts as lts
-use Rattle.names.proofs.utf8.character.Reads as character-reads
 
 abbrev Inv-loop : tie.InvT-loop
 Inv-loop s i₀ i = (i ≤ length s) × (nodeText (drop i s) ≡ nodeText s)

@@ -7,11 +7,6 @@ use Rattle.names.specs.Utf8.{_to_, tail}
 use Rattle.names.proofs.Utf8Laws.{size-led, size-one}
 use Rattle.names.proofs.utf8.character.Statement.{statement}
 use Rattle.names.proofs.utf8.character.Tie as tie
-use Rattle.names.proofs.utf8.character.Reads as reads
-use Rattle.names.proofs.utf8.character.Lts as lts
-use Rattle.names.proofs.utf8.four.Reads as four-reads
-use Rattle.names.proofs.utf8.three.Reads as three-reads
-use Rattle.names.proofs.utf8.two.Reads as two-reads
 
 three-requires : tie.Need-three-requires
 three-requires c κs = search needs

@@ -3,9 +3,6 @@ use Rattle.names.proofs.Utf8Laws.{follow-each, follow-short}
 use borrow.Author.Needs.{needs}
 use Rattle.names.proofs.utf8.two.Statement.{statement}
 use Rattle.names.proofs.utf8.two.Tie as tie
-use Rattle.names.proofs.utf8.two.Reads as reads
-use Rattle.names.proofs.utf8.two.Lts as lts
-use Rattle.names.proofs.utf8.within.Reads as within-reads
 
 returns : tie.Need-returns
 returns c = let h = c .if1 .taken in simp follow-short

@@ -1,0 +1,39 @@
+use mathlib.Core.Path.{_≡_, sym}
+use native.Mathlib.Omega.{arith}
+use lib.ListN.{length}
+use Rattle.names.specs.Held.{nameBytes}
+use Rattle.names.proofs.HeldLaws.{name-length}
+use borrow.Author.Needs.{needs}
+use Rattle.names.proofs.held.Name.put.Statement.{statement}
+use Rattle.names.proofs.held.Name.put.Tie as tie
+
+cast-l : tie.Need-cast-l
+cast-l c = search needs
+
+array-share-prefix-b : tie.Need-array-share-prefix-b
+array-share-prefix-b c = let r : length (c .before .before .before .before .args .self .bytes) ≡ 255 = search needs in omega arith
+
+slice-aggregate-put-bytes : tie.Need-slice-aggregate-put-bytes
+slice-aggregate-put-bytes c = let r : length (c .before .before .before .before .before .args .self .bytes) ≡ 255 = search needs in sym (name-length (c .before .before .before .before .before .args .self) (omega arith))
+
+put-bytes-requires : tie.Need-put-bytes-requires
+unfolding nameBytes
+put-bytes-requires c κs = c .before .before .before .before .before .pre
+
+same-length : tie.Need-same-length
+same-length c = search needs
+
+returns : tie.Need-returns
+unfolding nameBytes
+returns c = c .before .before .put-bytes .ensures
+
+pub put-spec : {M : Type 1} → statement M
+put-spec =
+    tie.close
+    (tie.spec
+    cast-l
+    array-share-prefix-b
+    slice-aggregate-put-bytes
+    put-bytes-requires
+    same-length
+    returns)
