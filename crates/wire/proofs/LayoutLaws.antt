@@ -8,10 +8,12 @@ use lib.ListN.{length, getD, take, drop, length-append, length-drop, take-append
 use lib.Seq.{drop-at, drop-drop, length-take-le}
 use Rattle.wire.specs.Run.{part}
 use Rattle.wire.specs.Number.{be, num, beAt}
+use Rattle.wire.specs.Frame.{framed}
 use Rattle.wire.specs.Layout.{Field, number, bytes, counted, Layout, Value, int, run, encodeField, encode, decodeField, fieldEnd, decodeFrom, endFrom, decode, extent, behind, FitsField, Fits}
 use Rattle.wire.specs.Claims.{Octets, ReadBack, LayoutBack, WrittenBack, LayoutOnly}
 use Rattle.wire.proofs.RunLaws.{part-behind, part-length}
 use Rattle.wire.proofs.NumberLaws.{be-length, number-back, octets-take, octets-drop, octets-back}
+use Rattle.wire.proofs.FrameLaws.{framed-split}
 
 -- ---- what was written is read back
 
@@ -143,3 +145,22 @@ module _ (xs : List ℕ) (o : Octets xs) where
 -- THE LAW
 pub layout-only : LayoutOnly
 layout-only fs xs o h = let r = only-from xs o fs 0 h in record { whole = r .0; fits = r .1 }
+
+-- ---- a message that ends in a counted run, in two writes: all before the run, and the run
+
+-- a counted run is its length as a number, and the run
+pub encode-counted : (fs : Layout) (vs : List Value) (w : ℕ) (bs : List ℕ) → length fs ≡ length vs
+    → encode (fs ++ (counted w ∷ [])) (vs ++ (run bs ∷ [])) ≡ encode (fs ++ (number w ∷ [])) (vs ++ (int (length bs) ∷ [])) ++ bs
+encode-counted [] [] w bs e = append-nil (be w (length bs) ++ bs) ∙ ap (λ (x : List ℕ). x ++ bs) (sym (append-nil (be w (length bs))))
+encode-counted [] (v ∷ vs) w bs e = absurd (omega arith)
+encode-counted (f ∷ fs) [] w bs e = absurd (omega arith)
+encode-counted (f ∷ fs) (v ∷ vs) w bs e =
+    ap (λ (x : List ℕ). encodeField f v ++ x) (encode-counted fs vs w bs (omega arith))
+    ∙ sym (append-assoc (encodeField f v) (encode (fs ++ (number w ∷ [])) (vs ++ (int (length bs) ∷ []))) bs)
+
+pub message-split : (fs : Layout) (vs : List Value) (w : ℕ) (bs : List ℕ) (n : ℕ) → length fs ≡ length vs
+    → n ≡ length (encode (fs ++ (number w ∷ [])) (vs ++ (int (length bs) ∷ []))) + length bs
+    → (be 2 n ++ encode (fs ++ (number w ∷ [])) (vs ++ (int (length bs) ∷ []))) ++ bs
+    ≡ framed (encode (fs ++ (counted w ∷ [])) (vs ++ (run bs ∷ [])))
+message-split fs vs w bs n e l =
+    framed-split (encode (fs ++ (number w ∷ [])) (vs ++ (int (length bs) ∷ []))) bs n l ∙ ap framed (sym (encode-counted fs vs w bs e))

@@ -4,3 +4,4 @@ pub mod OutputLaws
 pub mod FrameLaws
 pub mod LayoutLaws
 pub mod DecimalLaws
+pub mod LookupLaws
