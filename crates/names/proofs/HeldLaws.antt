@@ -1,8 +1,9 @@
 -- Laws of held names.
-use Prim.Native.Nat.{ℕ, _-_, _≤_}
+use Prim.Native.Nat.{ℕ, _-_, _≤_, _<_}
 use mathlib.Core.Path.{_≡_, refl, sym, ap, _∙_}
 use mathlib.Core.List.{List, _++_}
-use lib.ListN.{length, take, replicate}
+use native.Mathlib.Omega.{arith}
+use lib.ListN.{length, take, drop, replicate, length-take, take-append-drop}
 use lib.Seq.{length-take-le, take-append-seam}
 use Rattle.wire.specs.Output.{overwrite}
 use Rattle.wire.proofs.OutputLaws.{over-zeros}
@@ -41,5 +42,24 @@ held bs out h e =
     let p : out ≡ bs ++ replicate (255 - length bs) 0 = e ∙ over-zeros 255 bs h in
     λ i. record { bytes = p i; len = length bs }
 
-pub name-length : (n : Name) → n .len ≤ length (n .bytes) → length (take (n .len) (n .bytes)) ≡ n .len
-name-length n h = length-take-le (n .len) (n .bytes) h
+-- the part of the array that is the name
+module _ (n : Name) (room : length (n .bytes) ≡ 255) (small : n .len < 256) where
+  pub name-fits : n .len ≤ length (n .bytes)
+  name-fits = omega arith
+
+  pub name-length : n .len ≡ length (take (n .len) (n .bytes))
+  name-length = sym (length-take-le (n .len) (n .bytes) name-fits)
+
+-- ---- for those who read a held name
+
+-- it has at most 255 bytes
+pub name-short : (n : Name) → n .len < 256 → length (nameBytes n) ≤ 255
+unfolding nameBytes
+name-short n h = simp length-take (omega arith)
+
+-- and the array begins with them
+pub name-front : (n : Name) → take (length (nameBytes n)) (n .bytes) ≡ nameBytes n
+unfolding nameBytes
+name-front n =
+    ap (take (length (take (n .len) (n .bytes)))) (sym (take-append-drop (n .len) (n .bytes)))
+    ∙ take-append-seam (take (n .len) (n .bytes)) (drop (n .len) (n .bytes))

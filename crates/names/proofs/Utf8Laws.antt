@@ -1,19 +1,26 @@
 -- Laws of reading by the table of UTF-8.
 use Prim.Native.Nat.{ℕ, zero, suc, _+_, _-_, _≤_, _<_}
 use mathlib.Core.Path.{_≡_, refl, sym, ap, _∙_}
-use mathlib.Core.Bool.{Bool, true, false, _&&_}
+use mathlib.Core.Bool.{Bool, true, false, _&&_, not}
 use mathlib.Core.List.{List, [], _∷_}
 use mathlib.Core.Option.{none, some}
 use native.Mathlib.Omega.{arith}
 use lib.ListN.{length, getD}
 use lib.Dec.{eqb, leb}
-use borrow.Author.Tests.{eqb-true, lt-leb}
+use borrow.Author.Tests.{eqb-true, lt-leb, not-true, not-false}
 use Rattle.wire.proofs.RunLaws.{and-left, and-right}
 use Rattle.names.specs.Utf8.{Range, _to_, has, Row, State, table, begin, lead, run, follow, size}
 
 pub and-false : (a b : Bool) → b ≡ false → a && b ≡ false
 and-false true b e = e
 and-false false b e = refl
+
+-- what `if !within(..)` tells of the byte
+pub inside : {t u : Bool} → t ≡ u → not t ≡ false → u ≡ true
+inside {t} e h = sym e ∙ not-false t h
+
+pub outside : {t u : Bool} → t ≡ u → not t ≡ true → u ≡ false
+outside {t} e h = sym e ∙ not-true t h
 
 -- ---- a test that antt computes at n numbers from lo holds at each of them
 

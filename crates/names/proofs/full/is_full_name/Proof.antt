@@ -17,14 +17,18 @@ count-byte-requires c κs = search needs
 
 returns-3 : tie.Need-returns-3
 unfolding fullName
-returns-3 c = simp (le-leb _ _ (c .before .before .before .if1 .left), le-leb _ _ (c .before .before .if2 .left), ne-eqb _ _ (rw (c .before .count-byte .ensures) at (c .if3 .taken)))
+returns-3 c =
+    let b = c .before .before in
+    simp (le-leb _ _ (b .before .if1 .left), le-leb _ _ (b .if2 .left), ne-eqb _ _ (rw (c .before .count-byte .ensures) at (c .if3 .taken)))
 
 shared-slice-read-if4 : tie.Need-shared-slice-read-if4
 shared-slice-read-if4 c = search needs
 
 returns-4 : tie.Need-returns-4
 unfolding fullName
-returns-4 c = simp (le-leb _ _ (c .before .before .before .before .before .if1 .left), le-leb _ _ (c .before .before .before .before .if2 .left), eq-eqb _ _ (rw (c .before .before .before .count-byte .ensures) at (c .before .before .if3 .left)), eq-eqb _ _ (c .if4 .taken))
+returns-4 c =
+    let d = c .before .before in
+    simp (le-leb _ _ (d .before .before .before .if1 .left), le-leb _ _ (d .before .before .if2 .left), eq-eqb _ _ (rw (d .before .count-byte .ensures) at (d .if3 .left)), eq-eqb _ _ (c .if4 .taken))
 
 sub-last : tie.Need-sub-last
 sub-last c = search needs
@@ -34,11 +38,17 @@ shared-slice-read-if5 c = search needs
 
 returns-5 : tie.Need-returns-5
 unfolding fullName
-returns-5 c = simp (le-leb _ _ (c .before .before .before .before .before .before .before .if1 .left), le-leb _ _ (c .before .before .before .before .before .before .if2 .left), eq-eqb _ _ (rw (c .before .before .before .before .before .count-byte .ensures) at (c .before .before .before .before .if3 .left)), ne-eqb _ _ (c .before .before .if4 .left), eq-eqb _ _ (c .if5 .taken))
+returns-5 c =
+    let e = c .before .before in
+    let d = e .before .before in
+    simp (le-leb _ _ (d .before .before .before .if1 .left), le-leb _ _ (d .before .before .if2 .left), eq-eqb _ _ (rw (d .before .count-byte .ensures) at (d .if3 .left)), ne-eqb _ _ (e .if4 .left), eq-eqb _ _ (c .if5 .taken))
 
 returns-6 : tie.Need-returns-6
 unfolding fullName
-returns-6 c = simp (le-leb _ _ (c .before .before .before .before .before .before .before .if1 .left), le-leb _ _ (c .before .before .before .before .before .before .if2 .left), eq-eqb _ _ (rw (c .before .before .before .before .before .count-byte .ensures) at (c .before .before .before .before .if3 .left)), ne-eqb _ _ (c .before .before .if4 .left), ne-eqb _ _ (c .if5 .left))
+returns-6 c =
+    let e = c .before .before in
+    let d = e .before .before in
+    simp (le-leb _ _ (d .before .before .before .if1 .left), le-leb _ _ (d .before .before .if2 .left), eq-eqb _ _ (rw (d .before .count-byte .ensures) at (d .if3 .left)), ne-eqb _ _ (e .if4 .left), ne-eqb _ _ (c .if5 .left))
 
 pub is-full-name-spec : {M : Type 1} → statement M
 is-full-name-spec =

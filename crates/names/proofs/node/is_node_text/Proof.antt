@@ -9,7 +9,7 @@ use Rattle.names.proofs.node.is_node_text.Statement.{statement}
 use Rattle.names.proofs.node.is_node_text.Tie as tie
 
 abbrev Inv-loop : tie.InvT-loop
-Inv-loop s i₀ i = (i ≤ length s) × (nodeText (drop i s) ≡ nodeText s)
+Inv-loop s i₀ i = (i ≤ length s) × (nodeText s ≡ nodeText (drop i s))
 
 abbrev μ-loop : tie.MeasureT-loop
 μ-loop s i₀ i = length s - i
@@ -21,10 +21,16 @@ shared-slice-read-b : tie.Need-shared-slice-read-b Inv-loop μ-loop
 shared-slice-read-b c = search needs
 
 returns : tie.Need-returns Inv-loop μ-loop
-returns c = sym (sym (c .before .before .before .loop .inv .1) ∙ at-zero (c .before .before .before .before .before .args .s .now) (c .before .before .before .loop .i) (omega arith) (c .if1 .taken))
+returns c =
+    let l = c .before .before .before .loop in
+    let s = c .before .before .before .before .before .args .s .now in
+    sym (l .inv .1 ∙ at-zero s (l .i) (omega arith) (c .if1 .taken))
 
 returns-2 : tie.Need-returns-2 Inv-loop μ-loop
-returns-2 c = sym (sym (c .before .before .before .before .loop .inv .1) ∙ at-sign (c .before .before .before .before .before .before .args .s .now) (c .before .before .before .before .loop .i) (omega arith) (c .if2 .taken))
+returns-2 c =
+    let l = c .before .before .before .before .loop in
+    let s = c .before .before .before .before .before .before .args .s .now in
+    sym (l .inv .1 ∙ at-sign s (l .i) (omega arith) (c .if2 .taken))
 
 add-j : tie.Need-add-j Inv-loop μ-loop
 add-j c = search needs
@@ -42,19 +48,33 @@ character-requires : tie.Need-character-requires Inv-loop μ-loop
 character-requires c κs = search needs
 
 returns-3 : tie.Need-returns-3 Inv-loop μ-loop
-returns-3 c = sym (sym (c .before .before .before .before .before .before .before .loop .inv .1) ∙ at-none (c .before .before .before .before .before .before .before .before .before .args .s .now) (c .before .before .before .before .before .before .before .loop .i) (omega arith) (c .before .before .before .before .if1 .left) (c .before .before .before .if2 .left) (c .before .character .result) (c .before .character .ensures) (c .if3 .taken))
+returns-3 c =
+    let b = c .before .before .before in
+    let l = c .before .before .before .before .before .before .before .loop in
+    let s = c .before .before .before .before .before .before .before .before .before .args .s .now in
+    sym (l .inv .1 ∙ at-none s (l .i) (omega arith) (b .before .if1 .left) (b .if2 .left) (c .before .character .result) (c .before .character .ensures) (c .if3 .taken))
 
 add-i : tie.Need-add-i Inv-loop μ-loop
-add-i c = let w = at-whole (c .before .before .before .before .before .before .before .before .before .args .s .now) (c .before .before .before .before .before .before .before .loop .i) (omega arith) (c .before .before .before .before .if1 .left) (c .before .before .before .if2 .left) (c .before .character .result) (c .before .character .ensures) (c .if3 .left) in omega (arith, w .0)
+add-i c =
+    let b = c .before .before .before in
+    let l = c .before .before .before .before .before .before .before .loop in
+    let w = at-whole (c .before .before .before .before .before .before .before .before .before .args .s .now) (l .i) (omega arith) (b .before .if1 .left) (b .if2 .left) (c .before .character .result) (c .before .character .ensures) (c .if3 .left) in
+    omega (arith, w .0)
 
 loop-less : tie.Need-loop-less Inv-loop μ-loop
 loop-less c = search needs
 
 loop-again : tie.Need-loop-again Inv-loop μ-loop
-loop-again c = let w = at-whole (c .before .before .before .before .before .before .before .before .before .args .s .now) (c .before .before .before .before .before .before .before .loop .i) (omega arith) (c .before .before .before .before .if1 .left) (c .before .before .before .if2 .left) (c .before .character .result) (c .before .character .ensures) (c .if3 .left) in (omega (arith, w .0), sym (w .1) ∙ c .before .before .before .before .before .before .before .loop .inv .1)
+loop-again c =
+    let b = c .before .before .before in
+    let l = c .before .before .before .before .before .before .before .loop in
+    let w = at-whole (c .before .before .before .before .before .before .before .before .before .args .s .now) (l .i) (omega arith) (b .before .if1 .left) (b .if2 .left) (c .before .character .result) (c .before .character .ensures) (c .if3 .left) in
+    (omega (arith, w .0), l .inv .1 ∙ w .1)
 
 returns-4 : tie.Need-returns-4 Inv-loop μ-loop
-returns-4 c = sym (sym (c .before .loop .inv .1) ∙ text-end (c .before .before .before .args .s .now) (c .before .loop .i) (omega arith))
+returns-4 c =
+    let l = c .before .loop in
+    sym (l .inv .1 ∙ text-end (c .before .before .before .args .s .now) (l .i) (omega arith))
 
 pub is-node-text-spec : {M : Type 1} → statement M
 is-node-text-spec =

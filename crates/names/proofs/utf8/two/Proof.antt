@@ -1,5 +1,4 @@
-use borrow.Author.Tests.{not-true, not-false}
-use Rattle.names.proofs.Utf8Laws.{follow-each, follow-short}
+use Rattle.names.proofs.Utf8Laws.{follow-each, follow-short, inside, outside}
 use borrow.Author.Needs.{needs}
 use Rattle.names.proofs.utf8.two.Statement.{statement}
 use Rattle.names.proofs.utf8.two.Tie as tie
@@ -14,10 +13,14 @@ within-requires : tie.Need-within-requires
 within-requires c κs = search needs
 
 returns-2 : tie.Need-returns-2
-returns-2 c = let h = c .before .before .before .if1 .left in simp (follow-each, ← c .before .within .ensures, not-true (c .before .within .result) (c .if2 .taken))
+returns-2 c =
+    let h = c .before .before .before .if1 .left in
+    simp (follow-each, outside (c .before .within .ensures) (c .if2 .taken))
 
 returns-3 : tie.Need-returns-3
-returns-3 c = let h = c .before .before .before .if1 .left in simp (follow-each, ← c .before .within .ensures, not-false (c .before .within .result) (c .if2 .left))
+returns-3 c =
+    let h = c .before .before .before .if1 .left in
+    simp (follow-each, inside (c .before .within .ensures) (c .if2 .left))
 
 pub two-spec : {M : Type 1} → statement M
 two-spec =

@@ -1,8 +1,5 @@
-use mathlib.Core.Path.{_≡_, sym}
-use native.Mathlib.Omega.{arith}
-use lib.ListN.{length}
 use Rattle.names.specs.Held.{nameBytes}
-use Rattle.names.proofs.HeldLaws.{name-length}
+use Rattle.names.proofs.HeldLaws.{name-fits, name-length}
 use borrow.Author.Needs.{needs}
 use Rattle.names.proofs.held.Name.put.Statement.{statement}
 use Rattle.names.proofs.held.Name.put.Tie as tie
@@ -11,10 +8,10 @@ cast-l : tie.Need-cast-l
 cast-l c = search needs
 
 array-share-prefix-b : tie.Need-array-share-prefix-b
-array-share-prefix-b c = let r : length (c .before .before .before .before .args .self .bytes) ≡ 255 = search needs in omega arith
+array-share-prefix-b c = name-fits (c .before .before .before .before .args .self) (search needs) (search needs)
 
 slice-aggregate-put-bytes : tie.Need-slice-aggregate-put-bytes
-slice-aggregate-put-bytes c = let r : length (c .before .before .before .before .before .args .self .bytes) ≡ 255 = search needs in sym (name-length (c .before .before .before .before .before .args .self) (omega arith))
+slice-aggregate-put-bytes c = name-length (c .before .before .before .before .before .args .self) (search needs) (search needs)
 
 put-bytes-requires : tie.Need-put-bytes-requires
 unfolding nameBytes
