@@ -11,7 +11,7 @@ use lib.ListN.{length, getD, take, drop, length-drop, drop-of-length-le}
 use lib.Seq.{drop-cons, drop-drop}
 use lib.Dec.{eqb, leb}
 use borrow.Author.Tests.{leb-true, eq-eqb, ne-eqb}
-use Rattle.names.specs.Utf8.{Range, _to_, has, Row, State, table, begin, lead, run, ended, utf8, follow, size}
+use Rattle.names.specs.Utf8.{Range, _to_, has, Row, State, table, begin, lead, run, ended, utf8, follow, charLength}
 use Rattle.names.specs.Node.{lacks, nodeText}
 use Rattle.wire.proofs.RunLaws.{and-left, and-right, rest}
 use Rattle.names.proofs.Utf8Laws.{and-false, run-none}
@@ -93,11 +93,11 @@ unfolding nodeText
 text-false bs e = rw e
 
 at-char : (b : ℕ) (bs : List ℕ) (st : State) → lead b ≡ st → high st ≡ true → eqb b 0 ≡ false → eqb b 64 ≡ false
-    → Passes (b ∷ bs) (size st bs) ⊎ ((size st bs ≡ 0) × (nodeText (b ∷ bs) ≡ false))
+    → Passes (b ∷ bs) (charLength st bs) ⊎ ((charLength st bs ≡ 0) × (nodeText (b ∷ bs) ≡ false))
 unfolding run utf8 nodeText lacks
 at-char b bs none l e p q = inr (refl, text-false (b ∷ bs) (rw l (ap ended (run-none bs))))
 at-char b bs (some rs) l e p q = by (follows rs bs e) where
-  by : Whole rs bs ⊎ Broken rs bs → Passes (b ∷ bs) (size (some rs) bs) ⊎ ((size (some rs) bs ≡ 0) × (nodeText (b ∷ bs) ≡ false))
+  by : Whole rs bs ⊎ Broken rs bs → Passes (b ∷ bs) (charLength (some rs) bs) ⊎ ((charLength (some rs) bs ≡ 0) × (nodeText (b ∷ bs) ≡ false))
   by (inr w) = inr (rw (w .not-all), text-false (b ∷ bs) (rw l (w .refused)))
   by (inl w) = inl (record { some = rw (w .all) (omega arith); fits = rw (w .all) (omega (arith, w .fits)); same = rw (w .all, l, p, q, w .reads, w .lack 0 (omega arith), w .lack 64 (omega arith)) })
 
@@ -115,7 +115,7 @@ module _ (xs : List ℕ) (i : ℕ) (h : i < length xs) where
   unfolding nodeText lacks
   at-sign e = rw here (and-false (utf8 (getD xs i 0 ∷ drop (i + 1) xs) && lacks 0 (getD xs i 0 ∷ drop (i + 1) xs)) _ (rw (eq-eqb (getD xs i 0) 64 e)))
 
-  module _ (z : getD xs i 0 ≡ 0 → ⊥) (s : getD xs i 0 ≡ 64 → ⊥) (k : ℕ) (e : k ≡ size (lead (getD xs i 0)) (take (length xs - (i + 1)) (drop (i + 1) xs))) where
+  module _ (z : getD xs i 0 ≡ 0 → ⊥) (s : getD xs i 0 ≡ 64 → ⊥) (k : ℕ) (e : k ≡ charLength (lead (getD xs i 0)) (take (length xs - (i + 1)) (drop (i + 1) xs))) where
     told : Passes (drop i xs) k ⊎ ((k ≡ 0) × (nodeText (drop i xs) ≡ false))
     told = rw (here, e, rest (i + 1) xs) (at-char (getD xs i 0) (drop (i + 1) xs) (lead (getD xs i 0)) refl (lead-high (getD xs i 0)) (ne-eqb (getD xs i 0) 0 z) (ne-eqb (getD xs i 0) 64 s))
 

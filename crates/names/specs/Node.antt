@@ -11,9 +11,10 @@ unfoldable pub lacks : ℕ → List ℕ → Bool
 lacks b [] = true
 lacks b (x ∷ xs) = not (eqb x b) && lacks b xs
 
--- what is asked of the bytes
+-- "@" is 64
+unfoldable pub nodeName : List ℕ → Bool
+nodeName bs = leb 1 (length bs) && leb (length bs) 255 && utf8 bs && lacks 0 bs && lacks 64 bs
+
+-- what of it is asked of the bytes, whatever their number
 unfoldable pub nodeText : List ℕ → Bool
 nodeText bs = utf8 bs && lacks 0 bs && lacks 64 bs
-
-unfoldable pub nodeName : List ℕ → Bool
-nodeName bs = leb 1 (length bs) && leb (length bs) 255 && nodeText bs

@@ -77,6 +77,6 @@ follow (r ∷ rs) [] = false
 follow (r ∷ rs) (b ∷ bs) = has r b && follow rs bs
 
 -- how many bytes the character has whose first byte left the state, and the others of which begin bs; 0 if there is none
-abbrev pub size : State → List ℕ → ℕ
-size none bs = 0
-size (some rs) bs = cond (follow rs bs) (suc (length rs)) 0
+abbrev pub charLength : State → List ℕ → ℕ
+charLength none bs = 0
+charLength (some rs) bs = cond (follow rs bs) (suc (length rs)) 0

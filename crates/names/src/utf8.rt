@@ -2,7 +2,7 @@
 ghost use mathlib.Core.Path.{_≡_};
 ghost use mathlib.Core.List.{[], _∷_};
 ghost use mathlib.Core.Option.{some};
-ghost use Rattle.names.specs.Utf8.{_to_, has, tail, lead, size};
+ghost use Rattle.names.specs.Utf8.{_to_, has, tail, lead, charLength};
 
 // Whether b lies from lo to hi.
 fn within(b: u8, lo: u8, hi: u8) -> bool
@@ -17,7 +17,7 @@ fn within(b: u8, lo: u8, hi: u8) -> bool
 // The length of a character of two, three or four bytes, if what stands behind its first byte begins
 // with a byte from lo to hi and then with tails; else 0.
 fn two(rest: &[u8]) -> usize
-    ensures { λ r. ⌜ r ≡ size (some (tail ∷ [])) (now (rest .entry)) ⌝ }
+    ensures { λ r. ⌜ r ≡ charLength (some (tail ∷ [])) (now (rest .entry)) ⌝ }
 {
     if rest.len() < 1 {
         return 0;
@@ -29,7 +29,7 @@ fn two(rest: &[u8]) -> usize
 }
 
 fn three(rest: &[u8], lo: u8, hi: u8) -> usize
-    ensures { λ r. ⌜ r ≡ size (some (lo to hi ∷ tail ∷ [])) (now (rest .entry)) ⌝ }
+    ensures { λ r. ⌜ r ≡ charLength (some (lo to hi ∷ tail ∷ [])) (now (rest .entry)) ⌝ }
 {
     if rest.len() < 2 {
         return 0;
@@ -44,7 +44,7 @@ fn three(rest: &[u8], lo: u8, hi: u8) -> usize
 }
 
 fn four(rest: &[u8], lo: u8, hi: u8) -> usize
-    ensures { λ r. ⌜ r ≡ size (some (lo to hi ∷ tail ∷ tail ∷ [])) (now (rest .entry)) ⌝ }
+    ensures { λ r. ⌜ r ≡ charLength (some (lo to hi ∷ tail ∷ tail ∷ [])) (now (rest .entry)) ⌝ }
 {
     if rest.len() < 3 {
         return 0;
@@ -63,7 +63,7 @@ fn four(rest: &[u8], lo: u8, hi: u8) -> usize
 
 // How many bytes the character has that begins with b and goes on with the rest; 0 if there is none.
 pub(crate) fn character(b: u8, rest: &[u8]) -> usize
-    ensures { λ r. ⌜ r ≡ size (lead b) (now (rest .entry)) ⌝ }
+    ensures { λ r. ⌜ r ≡ charLength (lead b) (now (rest .entry)) ⌝ }
 {
     match b {
         0x00..=0x7F => 1,

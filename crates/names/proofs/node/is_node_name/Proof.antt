@@ -1,5 +1,5 @@
 use borrow.Author.Tests.{le-leb, lt-leb}
-use Rattle.names.specs.Node.{nodeName}
+use Rattle.names.specs.Node.{nodeName, nodeText}
 use borrow.Author.Needs.{needs}
 use Rattle.names.proofs.node.is_node_name.Statement.{statement}
 use Rattle.names.proofs.node.is_node_name.Tie as tie
@@ -16,7 +16,7 @@ is-node-text-requires : tie.Need-is-node-text-requires
 is-node-text-requires c κs = search needs
 
 returns-3 : tie.Need-returns-3
-unfolding nodeName
+unfolding nodeName nodeText
 returns-3 c = simp (le-leb _ _ (c .before .before .if1 .left), le-leb _ _ (c .before .if2 .left), c .is-node-text .ensures)
 
 pub is-node-name-spec : {M : Type 1} → statement M

@@ -4,7 +4,7 @@ use mathlib.Core.Option.{none, some}
 use native.Mathlib.Omega.{arith}
 use borrow.Author.Needs.{needs}
 use Rattle.names.specs.Utf8.{_to_, tail}
-use Rattle.names.proofs.Utf8Laws.{size-led, size-one}
+use Rattle.names.proofs.Utf8Laws.{length-led, length-one}
 use Rattle.names.proofs.utf8.character.Statement.{statement}
 use Rattle.names.proofs.utf8.character.Tie as tie
 
@@ -35,57 +35,57 @@ four-requires-3 c κs = search needs
 returns : tie.Need-returns
 returns c =
     let a = c .before .before .before .args in
-    c .three .ensures ∙ size-led (some (0xA0 to 0xBF ∷ tail ∷ [])) 0xE0 1 refl (a .b) (a .rest .now) (omega arith) (omega arith)
+    c .three .ensures ∙ length-led (some (0xA0 to 0xBF ∷ tail ∷ [])) 0xE0 1 refl (a .b) (a .rest .now) (omega arith) (omega arith)
 
 returns-2 : tie.Need-returns-2
 returns-2 c =
     let a = c .before .before .before .args in
-    c .three2 .ensures ∙ size-led (some (0x80 to 0x9F ∷ tail ∷ [])) 0xED 1 refl (a .b) (a .rest .now) (omega arith) (omega arith)
+    c .three2 .ensures ∙ length-led (some (0x80 to 0x9F ∷ tail ∷ [])) 0xED 1 refl (a .b) (a .rest .now) (omega arith) (omega arith)
 
 returns-3 : tie.Need-returns-3
 returns-3 c =
     let a = c .before .before .before .args in
-    c .four .ensures ∙ size-led (some (0x90 to 0xBF ∷ tail ∷ tail ∷ [])) 0xF0 1 refl (a .b) (a .rest .now) (omega arith) (omega arith)
+    c .four .ensures ∙ length-led (some (0x90 to 0xBF ∷ tail ∷ tail ∷ [])) 0xF0 1 refl (a .b) (a .rest .now) (omega arith) (omega arith)
 
 returns-4 : tie.Need-returns-4
 returns-4 c =
     let a = c .before .before .before .args in
-    c .four2 .ensures ∙ size-led (some (0x80 to 0x8F ∷ tail ∷ tail ∷ [])) 0xF4 1 refl (a .b) (a .rest .now) (omega arith) (omega arith)
+    c .four2 .ensures ∙ length-led (some (0x80 to 0x8F ∷ tail ∷ tail ∷ [])) 0xF4 1 refl (a .b) (a .rest .now) (omega arith) (omega arith)
 
 returns-5 : tie.Need-returns-5
 returns-5 c =
     let a = c .before .before .before .args in
-    size-one (a .rest .now) ∙ size-led (some []) 0x00 128 refl (a .b) (a .rest .now) (omega arith) (omega arith)
+    length-one (a .rest .now) ∙ length-led (some []) 0x00 128 refl (a .b) (a .rest .now) (omega arith) (omega arith)
 
 returns-6 : tie.Need-returns-6
 returns-6 c =
     let a = c .before .before .before .before .before .before .args in
-    c .two .ensures ∙ size-led (some (tail ∷ [])) 0xC2 30 refl (a .b) (a .rest .now) (omega arith) (omega arith)
+    c .two .ensures ∙ length-led (some (tail ∷ [])) 0xC2 30 refl (a .b) (a .rest .now) (omega arith) (omega arith)
 
 returns-7 : tie.Need-returns-7
 returns-7 c =
     let a = c .before .before .before .before .before .before .before .args in
-    c .three3 .ensures ∙ size-led (some (tail ∷ tail ∷ [])) 0xE1 12 refl (a .b) (a .rest .now) (omega arith) (omega arith)
+    c .three3 .ensures ∙ length-led (some (tail ∷ tail ∷ [])) 0xE1 12 refl (a .b) (a .rest .now) (omega arith) (omega arith)
 
 returns-8 : tie.Need-returns-8
 returns-8 c =
     let a = c .before .before .before .before .before .before .before .before .args in
-    c .three4 .ensures ∙ size-led (some (tail ∷ tail ∷ [])) 0xEE 2 refl (a .b) (a .rest .now) (omega arith) (omega arith)
+    c .three4 .ensures ∙ length-led (some (tail ∷ tail ∷ [])) 0xEE 2 refl (a .b) (a .rest .now) (omega arith) (omega arith)
 
 returns-9 : tie.Need-returns-9
 returns-9 c =
     let a = c .before .before .before .before .before .before .before .before .before .args in
-    c .four3 .ensures ∙ size-led (some (tail ∷ tail ∷ tail ∷ [])) 0xF1 3 refl (a .b) (a .rest .now) (omega arith) (omega arith)
+    c .four3 .ensures ∙ length-led (some (tail ∷ tail ∷ tail ∷ [])) 0xF1 3 refl (a .b) (a .rest .now) (omega arith) (omega arith)
 
 returns-10 : tie.Need-returns-10
 returns-10 c =
     let a = c .before .before .before .before .args in
-    size-led (none) 0x80 66 refl (a .b) (a .rest .now) (omega arith) (omega arith)
+    length-led none 0x80 66 refl (a .b) (a .rest .now) (omega arith) (omega arith)
 
 returns-11 : tie.Need-returns-11
 returns-11 c =
     let a = c .before .before .before .before .before .before .before .before .args in
-    size-led (none) 0xF5 11 refl (a .b) (a .rest .now) (omega arith) (omega arith)
+    length-led none 0xF5 11 refl (a .b) (a .rest .now) (omega arith) (omega arith)
 
 pub character-spec : {M : Type 1} → statement M
 character-spec =
