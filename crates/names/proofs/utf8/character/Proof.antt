@@ -8,6 +8,11 @@ use Rattle.names.proofs.Utf8Laws.{length-led, length-one}
 use Rattle.names.proofs.utf8.character.Statement.{statement}
 use Rattle.names.proofs.utf8.character.Tie as tie
 
+returns : tie.Need-returns
+returns c =
+    let a = c .before .before .args in
+    length-one (a .rest .now) ∙ length-led (some []) 0x00 128 refl (a .b) (a .rest .now) (omega arith) (omega arith)
+
 three-requires : tie.Need-three-requires
 three-requires c κs = search needs
 
@@ -32,30 +37,25 @@ three-requires-4 c κs = search needs
 four-requires-3 : tie.Need-four-requires-3
 four-requires-3 c κs = search needs
 
-returns : tie.Need-returns
-returns c =
-    let a = c .before .before .before .args in
-    c .three .ensures ∙ length-led (some (0xA0 to 0xBF ∷ tail ∷ [])) 0xE0 1 refl (a .b) (a .rest .now) (omega arith) (omega arith)
-
 returns-2 : tie.Need-returns-2
 returns-2 c =
-    let a = c .before .before .before .args in
-    c .three2 .ensures ∙ length-led (some (0x80 to 0x9F ∷ tail ∷ [])) 0xED 1 refl (a .b) (a .rest .now) (omega arith) (omega arith)
+    let a = c .before .before .before .before .args in
+    c .three .ensures ∙ length-led (some (0xA0 to 0xBF ∷ tail ∷ [])) 0xE0 1 refl (a .b) (a .rest .now) (omega arith) (omega arith)
 
 returns-3 : tie.Need-returns-3
 returns-3 c =
-    let a = c .before .before .before .args in
-    c .four .ensures ∙ length-led (some (0x90 to 0xBF ∷ tail ∷ tail ∷ [])) 0xF0 1 refl (a .b) (a .rest .now) (omega arith) (omega arith)
+    let a = c .before .before .before .before .args in
+    c .three2 .ensures ∙ length-led (some (0x80 to 0x9F ∷ tail ∷ [])) 0xED 1 refl (a .b) (a .rest .now) (omega arith) (omega arith)
 
 returns-4 : tie.Need-returns-4
 returns-4 c =
-    let a = c .before .before .before .args in
-    c .four2 .ensures ∙ length-led (some (0x80 to 0x8F ∷ tail ∷ tail ∷ [])) 0xF4 1 refl (a .b) (a .rest .now) (omega arith) (omega arith)
+    let a = c .before .before .before .before .args in
+    c .four .ensures ∙ length-led (some (0x90 to 0xBF ∷ tail ∷ tail ∷ [])) 0xF0 1 refl (a .b) (a .rest .now) (omega arith) (omega arith)
 
 returns-5 : tie.Need-returns-5
 returns-5 c =
-    let a = c .before .before .before .args in
-    length-one (a .rest .now) ∙ length-led (some []) 0x00 128 refl (a .b) (a .rest .now) (omega arith) (omega arith)
+    let a = c .before .before .before .before .args in
+    c .four2 .ensures ∙ length-led (some (0x80 to 0x8F ∷ tail ∷ tail ∷ [])) 0xF4 1 refl (a .b) (a .rest .now) (omega arith) (omega arith)
 
 returns-6 : tie.Need-returns-6
 returns-6 c =
@@ -91,6 +91,7 @@ pub character-spec : {M : Type 1} → statement M
 character-spec =
     tie.close
     (tie.spec
+    returns
     three-requires
     three-requires-2
     four-requires
@@ -99,7 +100,6 @@ character-spec =
     three-requires-3
     three-requires-4
     four-requires-3
-    returns
     returns-2
     returns-3
     returns-4
