@@ -83,6 +83,7 @@ follows (r ∷ rs) (b ∷ bs) e = by (has r b) refl (follows rs bs (high-rest r 
 
 -- ---- the rule at a character
 
+-- the first k bytes pass, and the rule is then on what is behind them
 pub record Passes (xs : List ℕ) (k : ℕ) : Type 0 where
   pub some : 1 ≤ k
   pub fits : k ≤ length xs
@@ -92,6 +93,7 @@ text-false : (bs : List ℕ) → utf8 bs ≡ false → nodeText bs ≡ false
 unfolding nodeText
 text-false bs e = rw e
 
+-- what begins with b keeps the rule or breaks it as the character there says; zero and "@" are tested apart
 at-char : (b : ℕ) (bs : List ℕ) (st : State) → lead b ≡ st → high st ≡ true → eqb b 0 ≡ false → eqb b 64 ≡ false
     → Passes (b ∷ bs) (charLength st bs) ⊎ ((charLength st bs ≡ 0) × (nodeText (b ∷ bs) ≡ false))
 unfolding run utf8 nodeText lacks
@@ -99,7 +101,13 @@ at-char b bs none l e p q = inr (refl, text-false (b ∷ bs) (rw l (ap ended (ru
 at-char b bs (some rs) l e p q = by (follows rs bs e) where
   by : Whole rs bs ⊎ Broken rs bs → Passes (b ∷ bs) (charLength (some rs) bs) ⊎ ((charLength (some rs) bs ≡ 0) × (nodeText (b ∷ bs) ≡ false))
   by (inr w) = inr (rw (w .not-all), text-false (b ∷ bs) (rw l (w .refused)))
-  by (inl w) = inl (record { some = rw (w .all) (omega arith); fits = rw (w .all) (omega (arith, w .fits)); same = rw (w .all, l, p, q, w .reads, w .lack 0 (omega arith), w .lack 64 (omega arith)) })
+  by (inl w) =
+      inl
+      (record {
+        some = rw (w .all) (omega arith);
+        fits = rw (w .all) (omega (arith, w .fits));
+        same = rw (w .all, l, p, q, w .reads, w .lack 0 (omega arith), w .lack 64 (omega arith));
+      })
 
 -- ---- the same, in the midst of a run
 
