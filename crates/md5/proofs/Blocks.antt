@@ -1,7 +1,7 @@
 -- Laws of the padded text and of a block that is filled from a zeroed one.
 -- Assumes nothing.
 use mathlib.Core.Path.{_≡_, refl, sym, ap, _∙_, subst}
-use mathlib.Core.List.{List, [], _∷_, _++_, append-assoc}
+use mathlib.Core.List.{List, [], _∷_, _++_, append-nil, append-assoc}
 use mathlib.Core.Logic.{_⊎_, inl, inr, ⊎-elim}
 use Prim.Native.Nat.{ℕ, zero, suc, _+_, _-_, _*_, _/_, _%_, _^_, _≤_, _<_}
 use native.Mathlib.Nat.{le-of-suc-le-suc, not-suc-le-zero, div-one}
@@ -57,9 +57,12 @@ block-text m i h =
 -- ---- a block that is filled from a zeroed one
 
 -- the zeroed block, where l ends before it
-pub shows-none : (l : List ℕ) (at : ℕ) → length l ≤ at → Shows l (replicate 64 0) at
-shows-none l at h =
-    record { long = length-replicate {A = ℕ} 64 0; same = λ j lt. getD-replicate 64 j 0 0 lt ∙ sym (List·getD-eq-default l 0 (omega arith)) }
+pub shows-none : {b : List ℕ} (l : List ℕ) (at : ℕ) → b ≡ replicate 64 0 → length l ≤ at → Shows l b at
+shows-none {b} l at e h =
+    record {
+      long = ap length e;
+      same = λ j lt. ap (λ (x : List ℕ). getD x j 0) e ∙ getD-replicate 64 j 0 0 lt ∙ sym (List·getD-eq-default l 0 (omega arith));
+    }
 
 snoc-other : (l : List ℕ) (v n : ℕ) → (n ≡ length l → ⊥) → getD (l ++ (v ∷ [])) n 0 ≡ getD l n 0
 snoc-other [] v zero h = absurd (h refl)
@@ -113,7 +116,11 @@ shows-earlier {l} {b} {at} m h s =
       same = λ j lt. s .same j lt ∙ List·getD-eq-default l 0 (omega arith) ∙ sym (List·getD-eq-default (l ++ m) 0 (omega (arith, length-append l m)));
     }
 
--- the next byte of a list that is appended byte by byte
+-- a list that is appended byte by byte: none of it
+pub shows-first : {b : List ℕ} {at : ℕ} (l : List ℕ) → Shows l b at → Shows (l ++ []) b at
+shows-first {b} {at} l s = subst (λ (t : List ℕ). Shows t b at) (sym (append-nil l)) s
+
+-- and its next byte
 pub shows-next : {b : List ℕ} {at : ℕ} (l m : List ℕ) (k j : ℕ) → k < length m → j < 64 → at + j ≡ length l + k
     → Shows (l ++ take k m) b at → Shows (l ++ take (k + 1) m) (set b j (getD m k 0)) at
 shows-next {b} {at} l m k j lm lj e s =
@@ -122,8 +129,8 @@ shows-next {b} {at} l m k j lm lj e s =
     (shows-more j (getD m k 0) lj (omega (arith, length-append l (take k m), length-take-le k m (omega arith))) s)
 
 -- a block within l
-pub shows-block : {l b : List ℕ} (i : ℕ) → 64 * i + 64 ≤ length l → Shows l b (64 * i) → b ≡ block l i
+pub shows-block : {b : List ℕ} (l : List ℕ) (i : ℕ) → 64 * i + 64 ≤ length l → Shows l b (64 * i) → b ≡ block l i
 unfolding block
-shows-block {l} {b} i h s =
+shows-block {b} l i h s =
     ext-getD 0 b (take 64 (drop (64 * i) l)) (s .long ∙ sym (block-length l i h))
     (λ j lt. s .same j (omega arith) ∙ sym (getD-take 64 (drop (64 * i) l) j 0 (omega arith) ∙ getD-drop (64 * i) l j 0))

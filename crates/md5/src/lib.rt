@@ -22,7 +22,8 @@ fn absorb(s: State, text: &[u8], i: usize) -> State
         let end = at + 64;
         return compress(s, &text[at..end]);
     }
-    let b = last(text, i);
+    let mut b = [0u8; 64];
+    last(&mut b, text, i);
     compress(s, &b)
 }
 
