@@ -40,6 +40,7 @@ impl Name {
     // How many bytes the name has.
     pub fn size(self) -> usize
         ensures { λ r. ⌜ r ≡ length (nameBytes self) ⌝ }
+        ensures { λ r. ⌜ r ≤ 255 ⌝ }
     {
         self.len as usize
     }
