@@ -1,0 +1,4 @@
+pub mod RegistryLaws
+pub mod RequestLaws
+pub mod ReplyLaws
+pub mod ServeLaws

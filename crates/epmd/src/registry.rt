@@ -1,0 +1,156 @@
+// The registry (01, The mapper): its own port, the next creation and 64 registrations.
+ghost use mathlib.Core.Path.{_≡_};
+ghost use Prim.Native.Nat.{_<_};
+ghost use Rattle.wire.specs.Lookup.{firstAt};
+ghost use Rattle.epmd.specs.Registration.{sought};
+ghost use Rattle.epmd.specs.Registry.{newOf, fresh, lowestFree, stepped, filled, closeOf, takenCount, entryAt};
+use crate::registration::Registration;
+use crate::registration::Sought;
+use crate::requests::Refusal;
+
+pub struct Registry {
+    pub(crate) port: u16,
+    pub(crate) next: u32,
+    pub(crate) registrations: [Registration; 64],
+}
+
+// Whether a registry was made.
+pub enum Making {
+    Ready,
+    Refused(Refusal),
+}
+
+// An enum holds no array, so the registry stands beside the answer. Beside a refusal it is an empty
+// one of port 0.
+pub struct Made {
+    pub making: Making,
+    pub registry: Registry,
+}
+
+// What close tells: whether there was a registration to free.
+pub struct Closed {
+    pub registry: Registry,
+    pub freed: bool,
+}
+
+// The creation after this one: 0 is never given.
+fn step(creation: u32) -> u32
+    ensures { λ r. ⌜ r ≡ stepped creation ⌝ }
+{
+    if creation == 4294967295 {
+        return 1;
+    }
+    creation + 1
+}
+
+fn empty(port: u16, next: u32) -> Registry
+    ensures { λ r. ⌜ r ≡ fresh port next ⌝ }
+{
+    Registry {
+        port,
+        next,
+        registrations: [Registration::free(); 64],
+    }
+}
+
+impl Registry {
+    pub fn new(port: u16, first: u32) -> Made
+        ensures { λ r. ⌜ r ≡ newOf port first ⌝ }
+    {
+        if first == 0 {
+            return Made {
+                making: Making::Refused(Refusal::ZeroCreation),
+                registry: empty(0, 1),
+            };
+        }
+        Made {
+            making: Making::Ready,
+            registry: empty(port, first),
+        }
+    }
+
+    // The lowest registration that is sought, or 64.
+    pub(crate) fn find(self, what: Sought, name: &[u8]) -> usize
+        ensures { λ r. ⌜ r ≡ firstAt (sought what (now (name .entry))) (self .registrations) ⌝ }
+    {
+        let mut i: usize = 0;
+        while i < 64 {
+            let p = self.registrations[i];
+            if p.is_sought(what, name) {
+                return i;
+            }
+            i += 1;
+        }
+        i
+    }
+
+    // The registry with a registration in its lowest free place, under the next creation.
+    pub(crate) fn fill(self, at: usize, p: Registration) -> Registry
+        requires { ⌜ (at ≡ lowestFree self) × (at < 64) ⌝ }
+        ensures { λ r. ⌜ r ≡ filled self p ⌝ }
+    {
+        let mut r = self;
+        r.registrations[at] = p;
+        r.next = step(self.next);
+        r
+    }
+
+    // Frees the registration of a connection and says so, or says that there was none.
+    pub fn close(self, connection: u32) -> Closed
+        ensures { λ r. ⌜ r ≡ closeOf self connection ⌝ }
+    {
+        let at = self.find(Sought::Connection(connection), b"");
+        if 64 <= at {
+            return Closed {
+                registry: self,
+                freed: false,
+            };
+        }
+        let mut r = self;
+        r.registrations[at] = Registration::free();
+        Closed {
+            registry: r,
+            freed: true,
+        }
+    }
+
+    // How many registrations there are.
+    pub fn taken(self) -> usize
+        ensures { λ r. ⌜ r ≡ takenCount self ⌝ }
+    {
+        let mut n: usize = 0;
+        let mut i: usize = 0;
+        while i < 64 {
+            let p = self.registrations[i];
+            if !p.is_free() {
+                n += 1;
+            }
+            i += 1;
+        }
+        n
+    }
+
+    // The registration at an index; from 64 on there is none.
+    pub fn entry(self, i: usize) -> Registration
+        ensures { λ r. ⌜ r ≡ entryAt self i ⌝ }
+    {
+        if 64 <= i {
+            return Registration::free();
+        }
+        self.registrations[i]
+    }
+
+    // The mapper's own port.
+    pub fn port(self) -> u16
+        ensures { λ r. ⌜ r ≡ self .port ⌝ }
+    {
+        self.port
+    }
+
+    // The creation that the next registration gets.
+    pub fn next(self) -> u32
+        ensures { λ r. ⌜ r ≡ self .next ⌝ }
+    {
+        self.next
+    }
+}
