@@ -4,3 +4,4 @@ pub mod Messages
 pub mod Requests
 pub mod Replies
 pub mod Serve
+pub mod Claims

@@ -36,7 +36,7 @@ pub(crate) enum Sought {
 }
 
 impl Extra {
-    pub fn of(s: &[u8]) -> Extra
+    pub(crate) fn of(s: &[u8]) -> Extra
         requires { ⌜ length (now s) ≤ 128 ⌝ }
         ensures { λ r. ⌜ r ≡ extraOf (now (s .entry)) ⌝ }
     {
@@ -60,14 +60,20 @@ impl Extra {
         l
     }
 
+    // The array that holds the extra bytes: they are its first.
+    pub fn array(self) -> [u8; 128]
+        ensures { λ r. ⌜ r ≡ self .bytes ⌝ }
+    {
+        self.bytes
+    }
+
     // Writes the extra bytes at an offset.
-    pub fn put(self, out: &mut [u8], at: usize)
+    pub(crate) fn put(self, out: &mut [u8], at: usize)
         requires { ⌜ at + length (extraBytes self) ≤ length (now out) ⌝ }
         ensures { λ _. ⌜ now (out .exit) ≡ overwrite (now (out .entry)) at (extraBytes self) ⌝ }
     {
-        let b = self.bytes;
         let l = self.size();
-        wire::put_bytes(out, at, &b[..l]);
+        wire::put_bytes(out, at, wire::get_part(&self.bytes, 0, l));
     }
 }
 

@@ -1,9 +1,10 @@
 // The registry (01, The mapper): its own port, the next creation and 64 registrations.
 ghost use mathlib.Core.Path.{_≡_};
 ghost use Prim.Native.Nat.{_<_};
+ghost use mathlib.Core.Bool.{cond};
 ghost use Rattle.wire.specs.Lookup.{firstAt};
 ghost use Rattle.epmd.specs.Registration.{sought};
-ghost use Rattle.epmd.specs.Registry.{newOf, fresh, lowestFree, stepped, filled, closeOf, takenCount, entryAt};
+ghost use Rattle.epmd.specs.Registry.{newOf, fresh, lowestFree, stepped, filled, closeOf, takenCount, entryAt, foundAt, surveyOf};
 use crate::registration::Registration;
 use crate::registration::Sought;
 use crate::requests::Refusal;
@@ -31,6 +32,29 @@ pub struct Made {
 pub struct Closed {
     pub registry: Registry,
     pub freed: bool,
+}
+
+// What a look-up finds.
+pub(crate) struct Found {
+    pub(crate) at: usize,
+    pub(crate) entry: Registration,
+}
+
+// What a registration has to know of the others.
+pub(crate) struct Survey {
+    pub(crate) named: usize,
+    pub(crate) connected: usize,
+    pub(crate) free: usize,
+}
+
+// i if that is to be, or else what was before.
+fn pick(yes: bool, i: usize, before: usize) -> usize
+    ensures { λ r. ⌜ r ≡ cond yes i before ⌝ }
+{
+    if yes {
+        return i;
+    }
+    before
 }
 
 // The creation after this one: 0 is never given.
@@ -69,19 +93,49 @@ impl Registry {
         }
     }
 
-    // The lowest registration that is sought, or 64.
-    pub(crate) fn find(self, what: Sought, name: &[u8]) -> usize
-        ensures { λ r. ⌜ r ≡ firstAt (sought what (now (name .entry))) (self .registrations) ⌝ }
+    // The lowest registration that is sought, and where it is; at 64 there is none.
+    pub(crate) fn find(self, what: Sought, name: &[u8]) -> Found
+        ensures { λ r. ⌜ r ≡ foundAt self (firstAt (sought what (now (name .entry))) (self .registrations)) ⌝ }
     {
         let mut i: usize = 0;
         while i < 64 {
             let p = self.registrations[i];
             if p.is_sought(what, name) {
-                return i;
+                return Found { at: i, entry: p };
             }
             i += 1;
         }
-        i
+        Found {
+            at: 64,
+            entry: Registration::free(),
+        }
+    }
+
+    // Where the name and the connection are registered and which place is free, the lowest of each,
+    // or 64. One pass for all three, since the registry is large.
+    pub(crate) fn survey(self, connection: u32, name: &[u8]) -> Survey
+        ensures { λ r. ⌜ r ≡ surveyOf self connection (now (name .entry)) ⌝ }
+    {
+        let mut named: usize = 64;
+        let mut connected: usize = 64;
+        let mut free: usize = 64;
+        let mut i: usize = 64;
+        while 0 < i {
+            i -= 1;
+            let p = self.registrations[i];
+            named = pick(p.is_sought(Sought::Named, name), i, named);
+            connected = pick(
+                p.is_sought(Sought::Connection(connection), name),
+                i,
+                connected,
+            );
+            free = pick(p.is_free(), i, free);
+        }
+        Survey {
+            named,
+            connected,
+            free,
+        }
     }
 
     // The registry with a registration in its lowest free place, under the next creation.
@@ -99,7 +153,8 @@ impl Registry {
     pub fn close(self, connection: u32) -> Closed
         ensures { λ r. ⌜ r ≡ closeOf self connection ⌝ }
     {
-        let at = self.find(Sought::Connection(connection), b"");
+        let found = self.find(Sought::Connection(connection), b"");
+        let at = found.at;
         if 64 <= at {
             return Closed {
                 registry: self,

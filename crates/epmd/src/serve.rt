@@ -3,12 +3,14 @@ ghost use mathlib.Core.Path.{_≡_};
 ghost use Prim.Native.Nat.{_≤_};
 ghost use lib.ListN.{length};
 ghost use Rattle.wire.specs.Output.{written};
-ghost use Rattle.epmd.specs.Replies.{port2Reply, namesReply};
-ghost use Rattle.epmd.specs.Serve.{Alive2Body, told, resultOf, registrationOf, alive2Of, requestOf};
+ghost use Rattle.epmd.specs.Replies.{port2By, namesReply};
+ghost use Rattle.epmd.specs.Serve.{Alive2Body, told, resultBy, registrationOf, alive2Of, requestOf};
 use crate::registration::Extra;
 use crate::registration::Registration;
 use crate::registration::Sought;
+use crate::registry::Found;
 use crate::registry::Registry;
+use crate::registry::Survey;
 use crate::replies::put_alive2_reply;
 use crate::replies::put_line;
 use crate::replies::put_port2_found;
@@ -52,37 +54,37 @@ fn registration_of(body: &[u8], connection: u32, creation: u32) -> Registration
     }
 }
 
+// The Result of a registration: 0, or 1 where the name or the connection has one, or all places are
+// taken.
+fn result_of(s: Survey) -> u8
+    ensures { λ r. ⌜ r ≡ resultBy (s .named) (s .connected) (s .free) ⌝ }
+{
+    if s.named < 64 {
+        return 1;
+    }
+    if s.connected < 64 {
+        return 1;
+    }
+    if s.free < 64 {
+        return 0;
+    }
+    1
+}
+
+// Writes the reply to a question for a name, by what was found under it, and tells its length.
+fn put_port2_reply(out: &mut [u8], found: Found) -> usize
+    requires { ⌜ 397 ≤ length (now out) ⌝ }
+    ensures { λ r. ⌜ r ≡ length (port2By (found .at) (found .entry)) ⌝ }
+    ensures { λ _. ⌜ now (out .exit) ≡ written (port2By (found .at) (found .entry)) (now (out .entry)) ⌝ }
+{
+    if found.at < 64 {
+        let entry = found.entry;
+        return put_port2_found(out, entry);
+    }
+    put_port2_missing(out)
+}
+
 impl Registry {
-    // The Result of a registration: 0, or 1 where the name or the connection has one, or all places
-    // are taken.
-    fn result_of(self, connection: u32, name: &[u8]) -> u8
-        ensures { λ r. ⌜ r ≡ resultOf self connection (now (name .entry)) ⌝ }
-    {
-        if self.find(Sought::Named, name) < 64 {
-            return 1;
-        }
-        if self.find(Sought::Connection(connection), name) < 64 {
-            return 1;
-        }
-        if self.find(Sought::Free, name) < 64 {
-            return 0;
-        }
-        1
-    }
-
-    // Writes the reply to a question for a name, and tells its length.
-    fn put_port2_reply(self, name: &[u8], out: &mut [u8]) -> usize
-        requires { ⌜ 397 ≤ length (now out) ⌝ }
-        ensures { λ r. ⌜ r ≡ length (port2Reply self (now (name .entry))) ⌝ }
-        ensures { λ _. ⌜ now (out .exit) ≡ written (port2Reply self (now (name .entry))) (now (out .entry)) ⌝ }
-    {
-        let at = self.find(Sought::Named, name);
-        if 64 <= at {
-            return put_port2_missing(out);
-        }
-        put_port2_found(out, self.registrations[at])
-    }
-
     // Writes the NAMES reply, and tells its length.
     fn put_names_reply(self, out: &mut [u8]) -> usize
         requires { ⌜ 17604 ≤ length (now out) ⌝ }
@@ -109,7 +111,8 @@ impl Registry {
     {
         let nlen = wire::get16(body, 9) as usize;
         let highest = wire::get16(body, 5);
-        let result = self.result_of(connection, wire::get_part(body, 11, nlen));
+        let others = self.survey(connection, wire::get_part(body, 11, nlen));
+        let result = result_of(others);
         if result != 0 {
             let n = put_alive2_reply(out, highest, result, 0);
             return Served {
@@ -118,7 +121,7 @@ impl Registry {
             };
         }
         let creation = self.next;
-        let at = self.find(Sought::Free, body);
+        let at = others.free;
         let filled = self.fill(at, registration_of(body, connection, creation));
         let n = put_alive2_reply(out, highest, 0, creation);
         Served {
@@ -141,7 +144,8 @@ impl Registry {
             Request::Alive2 => self.alive2(connection, wire::body_of(frame), out),
             Request::PortPlease2 => {
                 let body = wire::body_of(frame);
-                let n = self.put_port2_reply(&body[1..], out);
+                let found = self.find(Sought::Named, &body[1..]);
+                let n = put_port2_reply(out, found);
                 Served {
                     registry: self,
                     answer: Answer::Written(n),

@@ -57,35 +57,31 @@ impl Name {
         requires { ⌜ at + length (nameBytes self) ≤ length (now out) ⌝ }
         ensures { λ _. ⌜ now (out .exit) ≡ overwrite (now (out .entry)) at (nameBytes self) ⌝ }
     {
-        let b = self.bytes;
         let l = self.len as usize;
-        wire::put_bytes(out, at, &b[..l]);
+        wire::put_bytes(out, at, wire::get_part(&self.bytes, 0, l));
     }
 
     // Whether the name is this run.
     pub fn is(self, s: &[u8]) -> bool
         ensures { λ r. ⌜ r ≡ sameBytes (nameBytes self) (now (s .entry)) ⌝ }
     {
-        let b = self.bytes;
         let l = self.len as usize;
-        wire::same_bytes(&b[..l], s)
+        wire::same_bytes(wire::get_part(&self.bytes, 0, l), s)
     }
 
     // How the name compares with a run.
     pub fn compare(self, s: &[u8]) -> wire::Order
         ensures { λ r. ⌜ r ≡ order (nameBytes self) (now (s .entry)) ⌝ }
     {
-        let b = self.bytes;
         let l = self.len as usize;
-        wire::compare(&b[..l], s)
+        wire::compare(wire::get_part(&self.bytes, 0, l), s)
     }
 
     // Whether two held names are the same name.
     pub fn same(self, other: Name) -> bool
         ensures { λ r. ⌜ r ≡ sameBytes (nameBytes self) (nameBytes other) ⌝ }
     {
-        let b = other.bytes;
         let l = other.len as usize;
-        self.is(&b[..l])
+        self.is(wire::get_part(&other.bytes, 0, l))
     }
 }
