@@ -1,0 +1,53 @@
+-- 01, The gate: cookies and the digest.
+use Prim.Native.Nat.{ℕ}
+use mathlib.Core.Bool.{Bool, true, _&&_}
+use mathlib.Core.List.{List, [], _∷_, _++_, map}
+use lib.ListN.{length}
+use lib.Dec.{leb}
+use Rattle.wire.specs.Decimal.{decimal}
+use Rattle.md5.specs.Md5.{md5}
+use Rattle.handshake.specs.declared.endpoint.Stage.{Stage}
+use Rattle.handshake.specs.declared.endpoint.Stage.the-variants.{Free, AwaitsName, AwaitsAlive, AwaitsReply, AwaitsStatus, AwaitsChallenge, AwaitsAck, Connected}
+
+-- "Digest: MD5 of the challenge as decimal text without leading zeros, followed by the cookie bytes"
+unfoldable pub digestOf : ℕ → List ℕ → List ℕ
+digestOf challenge cookie = md5 (decimal challenge ++ cookie)
+
+-- the cookies that are lent with a call: the peer's own, and the default
+pub record Cookies : Type 0 where
+  pub own : List ℕ
+  pub standard : List ℕ
+
+-- "the peer's own cookie if it has any bytes, otherwise the default"
+abbrev pub chosen : List ℕ → List ℕ → List ℕ
+chosen [] standard = standard
+chosen (b ∷ bs) standard = b ∷ bs
+
+-- "The base uses one cookie in both directions": the one with which a digest is checked, and the one with which it is written
+abbrev pub checking : Cookies → List ℕ
+checking k = chosen (k .own) (k .standard)
+
+abbrev pub writing : Cookies → List ℕ
+writing k = chosen (k .own) (k .standard)
+
+-- "11 is tested only where a challenge to us, a reply or an acknowledgement is awaited": the cookies that a message needs
+abbrev pub needed : Stage → Cookies → List (List ℕ)
+needed Free k = []
+needed AwaitsName k = []
+needed AwaitsAlive k = []
+needed AwaitsReply k = checking k ∷ []
+needed AwaitsStatus k = []
+needed AwaitsChallenge k = writing k ∷ []
+needed AwaitsAck k = checking k ∷ []
+needed Connected k = []
+
+-- "Allowed: 1 to 255 bytes."
+abbrev pub allowed : List ℕ → Bool
+allowed k = leb 1 (length k) && leb (length k) 255
+
+abbrev pub every : List Bool → Bool
+every [] = true
+every (b ∷ bs) = b && every bs
+
+unfoldable pub fit : Stage → Cookies → Bool
+fit st k = every (map allowed (needed st k))

@@ -1,0 +1,11 @@
+pub mod Refusals
+pub mod Flags
+pub mod Endpoint
+pub mod Messages
+pub mod Cookie
+pub mod Plans
+pub mod Accepting
+pub mod Connecting
+pub mod Calls
+pub mod Runs
+pub mod Claims

@@ -1,0 +1,15 @@
+// The handshake endpoint (01's gate): handshakes of version 6, as initiator and as acceptor.
+mod accepting;
+mod cookie;
+mod endpoint;
+mod refusal;
+
+pub use endpoint::Answer;
+pub use endpoint::Endpoint;
+pub use endpoint::Freed;
+pub use endpoint::Made;
+pub use endpoint::Making;
+pub use endpoint::Slot;
+pub use endpoint::Stage;
+pub use endpoint::Told;
+pub use refusal::Refusal;
