@@ -85,7 +85,7 @@ only-by-digest i k g Arrive e =
 only-by-digest i k g (Close s) e =
     inl (unless-elim (λ t. Up i (t .endpoint) → Up i g) (kept g) _ (closeTests g s) (λ r u. u) (λ h. kept-up i g s freeSlot refl) e)
 only-by-digest i k g (Message s f c out) e =
-    plan-up i k g s f c out (plan g s f c (length out) (fit (slotAt g s .stage) k)) (sane g s f c (length out) (fit (slotAt g s .stage) k)) e
+    plan-up i k g s f c out (plan g s f c (length out) (fit (slotAt g s .stage) (checking k) (writing k))) (sane g s f c (length out) (fit (slotAt g s .stage) (checking k) (writing k))) e
 
 run-up : (i : ℕ) (g : Endpoint) (l : List Asked) → Up i (ends g l) → Up i g ⊎ ShownIn g i l
 unfolding ends ShownIn

@@ -19,10 +19,13 @@ use Rattle.handshake.specs.declared.accepting.Greeting.{Greeting}
 use Rattle.handshake.specs.declared.accepting.Greeting.the-variants.{NotAllowed, Nok, OkSimultaneous, Alive, Ok}
 use Rattle.handshake.specs.Refusals.{keep, free, messageFate, Test, checked, unless}
 use Rattle.handshake.specs.Endpoint.{slotAt, isA, linked, put, freed, freeOther}
-use Rattle.handshake.specs.Messages.{nameMessage, challengeMessage, statusMessage, nameName, statusWord, ok, okSimultaneous, nok, notAllowed, alive, trueWord, falseWord}
+use Rattle.handshake.specs.Messages.{nameMessage, challengeMessage, statusMessage, nameFlags, nameCreation, nameName, statusWord, ok, okSimultaneous, nok, notAllowed, alive, trueWord, falseWord}
 use Rattle.handshake.specs.Cookie.{Cookies, checking, writing, fit, digestOf}
-use Rattle.handshake.specs.Plans.{Writes, plain, reply, ack, Act, Outcome, stop, go, Plan, sure, proven, fails, bodyTests, judged, settled, spared, finished, concluded, challengeOf}
+use Rattle.handshake.specs.Plans.{Writes, plain, reply, ack, Act, Outcome, stop, go, Plan, sure, proven, fails, judged, settled, spared, finished, concluded, challengeOf}
+use Rattle.handshake.specs.declared.connecting.Reaction.{Reaction}
+use Rattle.handshake.specs.declared.connecting.Reaction.the-variants.{Proceed, Confirm, GiveUp, Unknown}
 use Rattle.handshake.specs.Accepting.{greeting, greet}
+use Rattle.handshake.specs.Connecting.{reaction, onStatus}
 use Rattle.handshake.specs.Calls.{startTests, arriveTests, closeTests, newTests, nameOut, begun, silent, kept, arrived, startOf, arriveOf, closeOf, expected, awaited, messageTests, plan, messageOf}
 use Rattle.handshake.specs.Runs.{Call, Start, Arrive, Close, Message, step, next}
 use Rattle.handshake.specs.Claims.{Carries, by-reply, by-ack}
@@ -70,25 +73,29 @@ module _ (g : Endpoint) (sl : Slot) (b : List ℕ) where
   word : (w : List ℕ) → length w ≤ 15 → length (statusMessage w) ≤ 18
   word w h = omega (arith, status-size w)
 
-  sane-greet : (c : ℕ) (x : Greeting) → Sane g sl b (greet g c b x)
-  sane-greet c NotAllowed = (refl, λ h. omega (arith, word notAllowed (omega arith)))
-  sane-greet c Nok = (refl, λ h. omega (arith, word nok (omega arith)))
-  sane-greet c (OkSimultaneous mine) = (refl, long c (statusMessage okSimultaneous) (word okSimultaneous (omega arith)))
-  sane-greet c Alive = (refl, λ h. omega (arith, word alive (omega arith)))
-  sane-greet c Ok = (refl, long c (statusMessage ok) (word ok (omega arith)))
+  sane-greet : (n : List ℕ) (f k c : ℕ) (x : Greeting) → Sane g sl b (greet g n f k c x)
+  sane-greet n f k c NotAllowed = (refl, λ h. omega (arith, word notAllowed (omega arith)))
+  sane-greet n f k c Nok = (refl, λ h. omega (arith, word nok (omega arith)))
+  sane-greet n f k c (OkSimultaneous mine) = (refl, long c (statusMessage okSimultaneous) (word okSimultaneous (omega arith)))
+  sane-greet n f k c Alive = (refl, λ h. omega (arith, word alive (omega arith)))
+  sane-greet n f k c Ok = (refl, long c (statusMessage ok) (word ok (omega arith)))
+
+  sane-status : (x : Reaction) → Sane g sl b (onStatus sl x)
+  sane-status Proceed = (refl, λ h. omega arith)
+  sane-status Confirm = (refl, λ h. omega (arith, word trueWord (omega arith)))
+  sane-status GiveUp = tt
+  sane-status Unknown = tt
 
   pub sane-rule : (c : ℕ) (st : Stage) → sl .stage ≡ st → Sane g sl b (expected g sl c b st .rule)
   unfolding expected
   sane-rule c Free e = tt
-  sane-rule c AwaitsName e = sane-greet c (greeting g (nameName b))
+  sane-rule c AwaitsName e = sane-greet (nameName b) (nameFlags b) (nameCreation b) c (greeting g (nameName b))
   sane-rule c AwaitsAlive e =
       either (Sane g sl b) (sameBytes (statusWord b) trueWord) _ _ (refl, long c [] (omega arith))
       (either (Sane g sl b) (sameBytes (statusWord b) falseWord) _ _ (refl, λ h. omega arith) tt)
   sane-rule c AwaitsReply e = (refl, by-reply e refl, λ h. tt)
   sane-rule c AwaitsStatus e =
-      either (Sane g sl b) (sameBytes (statusWord b) ok || sameBytes (statusWord b) okSimultaneous) _ _ (refl, λ h. omega arith)
-      (either (Sane g sl b) (sameBytes (statusWord b) alive) _ _ (refl, λ h. omega (arith, word trueWord (omega arith)))
-      (either (Sane g sl b) (sameBytes (statusWord b) nok || sameBytes (statusWord b) notAllowed) _ _ tt tt))
+      sane-status (reaction (statusWord b))
   sane-rule c AwaitsChallenge e = (refl, λ h. tt)
   sane-rule c AwaitsAck e = (refl, by-ack e refl, λ h. omega arith)
   sane-rule c Connected e = tt
@@ -136,5 +143,5 @@ module _ (P : Endpoint → Type 0) (g : Endpoint) (k : P g) (f : (s : ℕ) → P
   after-call (Close s) c′ st ar ru = unless-elim (λ t. P (t .endpoint)) (kept g) _ (closeTests g s) (λ r. k) (λ h. f s)
   after-call (Message s m h out) c′ st ar ru =
       after-plan (checking c′) (writing c′) s _
-      (unless-elim (Does P g s) fails (awaited g s m h .rule) (messageTests g s (length out) (fit (slotAt g s .stage) c′) m (awaited g s m h)) (λ r. tt)
-      (ru s m h (length out) (fit (slotAt g s .stage) c′)))
+      (unless-elim (Does P g s) fails (awaited g s m h .rule) (messageTests g s (length out) (fit (slotAt g s .stage) (checking c′) (writing c′)) m (awaited g s m h)) (λ r. tt)
+      (ru s m h (length out) (fit (slotAt g s .stage) (checking c′) (writing c′))))

@@ -55,7 +55,7 @@ quiet k g (Close s) r =
     unless-elim (λ t. Quiet r g (silent t)) (kept g) _ (closeTests g s) (λ q e. (refl, refl))
     (λ h e. let z : _≡_ {A = ℕ} 0 1 = cc in absurd (omega arith))
 quiet k g (Message s f c out) r =
-    plan-quiet (checking k) (writing k) g s r (plan g s f c (length out) (fit (slotAt g s .stage) k))
+    plan-quiet (checking k) (writing k) g s r (plan g s f c (length out) (fit (slotAt g s .stage) (checking k) (writing k)))
 
 pub refused-quietly : RefusedQuietly
 refused-quietly k g c r e =

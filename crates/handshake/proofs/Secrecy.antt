@@ -23,8 +23,9 @@ use Rattle.handshake.specs.declared.endpoint.Made.{Made}
 use Rattle.handshake.specs.Refusals.{Test, _given-if_, checked, unless}
 use Rattle.handshake.specs.Endpoint.{slotAt, isA, linked, vacant}
 use Rattle.handshake.specs.Messages.{replyMessage, ackMessage}
+use Rattle.handshake.specs.Forms.{formTests}
 use Rattle.handshake.specs.Cookie.{digestOf, Cookies, checking, writing, needed, allowed, every, fit}
-use Rattle.handshake.specs.Plans.{Done, Writes, plain, reply, ack, Act, Outcome, stop, go, Plan, sure, proven, fails, bodyTests, judged, settled, render, finished, concluded}
+use Rattle.handshake.specs.Plans.{Done, Writes, plain, reply, ack, Act, Outcome, stop, go, Plan, sure, proven, fails, judged, settled, render, finished, concluded}
 use Rattle.handshake.specs.Calls.{room, messageOf, awaited, frameTests, plan}
 use Rattle.handshake.specs.Runs.{Call, Start, Arrive, Close, Message, step, next, left, used, verdict, checkOf, writesOf, writes, excepted, Given, Moment, moments, differ, splits, beforeSplit, All, Alike, Same, Agree}
 use Rattle.handshake.specs.Claims.{Demand3}
@@ -116,17 +117,17 @@ ordered false b₂ b₁₀ ok₁ ok₂ ts due h = rw (h refl)
 
 planned : (g : Endpoint) (s : ℕ) (f : List ℕ) (c : ℕ) (out : List ℕ) (k₁ k₂ : Cookies)
     → map allowed (used g (Message s f c out) k₁) ≡ map allowed (used g (Message s f c out) k₂)
-    → plan g s f c (length out) (fit (slotAt g s .stage) k₁) ≡ plan g s f c (length out) (fit (slotAt g s .stage) k₂)
+    → plan g s f c (length out) (fit (slotAt g s .stage) (checking k₁) (writing k₁)) ≡ plan g s f c (length out) (fit (slotAt g s .stage) (checking k₂) (writing k₂))
 unfolding used plan fit
 planned g s f c out k₁ k₂ h =
-    ordered (ltb (length out) room) (vacant g s) (isA linked (slotAt g s)) _ _ (frameTests f ++ bodyTests (awaited g s f c))
+    ordered (ltb (length out) room) (vacant g s) (isA linked (slotAt g s)) _ _ (frameTests f ++ formTests (awaited g s f c .form))
     (awaited g s f c .rule) (λ e. ap every (fits (ltb (length out) room) h e))
   where
     n₁ : List (List ℕ)
-    n₁ = needed (slotAt g s .stage) k₁
+    n₁ = needed (slotAt g s .stage) (checking k₁) (writing k₁)
 
     n₂ : List (List ℕ)
-    n₂ = needed (slotAt g s .stage) k₂
+    n₂ = needed (slotAt g s .stage) (checking k₂) (writing k₂)
 
     fits : (b : Bool) → map allowed (cond b [] n₁) ≡ map allowed (cond b [] n₂) → b ≡ false → map allowed n₁ ≡ map allowed n₂
     fits true h e = absurd (true≢false e)
@@ -190,8 +191,8 @@ called g (Start n out) k₁ k₂ u v = record { answer = refl; endpoint = refl; 
 called g Arrive k₁ k₂ u v = record { answer = refl; endpoint = refl; size = refl; bytes = λ i e. refl }
 called g (Close s) k₁ k₂ u v = record { answer = refl; endpoint = refl; size = refl; bytes = λ i e. refl }
 called g (Message s f c out) k₁ k₂ u v =
-    messaged (checking k₁) (checking k₂) (writing k₁) (writing k₂) g s out (plan g s f c (length out) (fit (slotAt g s .stage) k₁))
-    (plan g s f c (length out) (fit (slotAt g s .stage) k₂)) (planned g s f c out k₁ k₂ u) v
+    messaged (checking k₁) (checking k₂) (writing k₁) (writing k₂) g s out (plan g s f c (length out) (fit (slotAt g s .stage) (checking k₁) (writing k₁)))
+    (plan g s f c (length out) (fit (slotAt g s .stage) (checking k₂) (writing k₂))) (planned g s f c out k₁ k₂ u) v
 
 -- ---- the list
 

@@ -66,8 +66,8 @@ module _ (g : Endpoint) (short : length (nameBytes (g .name)) ≤ 255) where
   call-little Arrive k = omega arith
   call-little (Close s) k = omega arith
   call-little (Message s f c out) k =
-      plan-little (slotAt g s) (body f) (checking k) (writing k) s (plan g s f c (length out) (fit (slotAt g s .stage) k))
-      (sane g s f c (length out) (fit (slotAt g s .stage) k))
+      plan-little (slotAt g s) (body f) (checking k) (writing k) s (plan g s f c (length out) (fit (slotAt g s .stage) (checking k) (writing k)))
+      (sane g s f c (length out) (fit (slotAt g s .stage) (checking k) (writing k)))
 
 pub writes-little : WritesLittle
 writes-little n f c g m l call k =

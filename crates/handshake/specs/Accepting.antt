@@ -2,14 +2,10 @@
 use Prim.Native.Nat.{ℕ}
 use mathlib.Core.Bool.{Bool, true, false, cond}
 use mathlib.Core.List.{List, [], _++_}
-use lib.ListN.{length}
-use lib.Dec.{eqb, leb}
 use Rattle.wire.specs.declared.run.Order.{Order}
 use Rattle.wire.specs.declared.run.Order.the-variants.{Less, Equal, Greater}
 use Rattle.wire.specs.Run.{sameBytes, order}
-use Rattle.wire.specs.Layout.{extent}
 use Rattle.names.specs.Held.{nameOf, nameBytes}
-use Rattle.names.specs.Full.{fullName}
 use Rattle.handshake.specs.declared.refusal.Refusal.the-variants.{UnknownStatus}
 use Rattle.handshake.specs.declared.endpoint.Stage.{Stage}
 use Rattle.handshake.specs.declared.endpoint.Stage.the-variants.{AwaitsAlive, AwaitsReply, Connected}
@@ -20,10 +16,10 @@ use Rattle.handshake.specs.declared.endpoint.Freed.{Freed}
 use Rattle.handshake.specs.declared.endpoint.Freed.the-variants.{Nothing, At}
 use Rattle.handshake.specs.declared.accepting.Greeting.{Greeting}
 use Rattle.handshake.specs.declared.accepting.Greeting.the-variants.{NotAllowed, Nok, OkSimultaneous, Alive, Ok}
-use Rattle.handshake.specs.Flags.{goodFlags}
 use Rattle.handshake.specs.Endpoint.{freeSlot, lowest, isSlot, freedAt}
-use Rattle.handshake.specs.Messages.{nameL, replyL, tagOf, nameTag, statusTag, replyTag, nameFlags, nameCreation, nameName, statusWord, replyChallenge, replyDigest, statusMessage, ok, okSimultaneous, nok, notAllowed, alive, trueWord, falseWord}
-use Rattle.handshake.specs.Plans.{Writes, plain, ack, Plan, proven, does, fails, Expected, sent, moved, challengeOf}
+use Rattle.handshake.specs.Messages.{nameFlags, nameCreation, nameName, statusWord, replyChallenge, replyDigest, statusMessage, ok, okSimultaneous, nok, notAllowed, alive, trueWord, falseWord}
+use Rattle.handshake.specs.Forms.{nameForm, statusForm, replyForm}
+use Rattle.handshake.specs.Plans.{ack, Plan, proven, does, fails, Expected, sent, moved, challengeOf}
 
 -- ---- awaits name
 
@@ -46,32 +42,29 @@ greeting g n =
     (cond (isSlot (lowest Linked n g)) Alive Ok)))
 
 -- the slot with what the name message brings: "name, flags and creation are recorded when read, and the challenge when sent"
-abbrev pub heard : List ℕ → Stage → ℕ → Slot
-heard b st c = record { stage = st; name = nameOf (nameName b); flags = nameFlags b; creation = nameCreation b; challenge = c }
+abbrev pub heard : List ℕ → ℕ → ℕ → Stage → ℕ → Slot
+heard n f k st c = record { stage = st; name = nameOf n; flags = f; creation = k; challenge = c }
 
 abbrev pub turnAway : List ℕ → Plan
 turnAway word = does freeSlot Nothing (statusMessage word)
 
 -- "After ok and ok_simultaneous the challenge message follows in the same output, with the challenge lent to this call; awaits reply."
-abbrev pub welcome : Endpoint → ℕ → List ℕ → List ℕ → Freed → Plan
-welcome g c b word other = does (heard b AwaitsReply c) other (statusMessage word ++ challengeOf g c)
+abbrev pub welcomes : Endpoint → List ℕ → ℕ → List ℕ
+welcomes g word c = statusMessage word ++ challengeOf g c
 
-abbrev pub greet : Endpoint → ℕ → List ℕ → Greeting → Plan
-greet g c b NotAllowed = turnAway notAllowed
-greet g c b Nok = turnAway nok
-greet g c b (OkSimultaneous mine) = welcome g c b okSimultaneous (At mine)
-greet g c b Alive = does (heard b AwaitsAlive 0) Nothing (statusMessage alive)
-greet g c b Ok = welcome g c b ok Nothing
+-- n, f and k: the name, flags and creation that are read; c: the challenge lent to this call
+abbrev pub greet : Endpoint → List ℕ → ℕ → ℕ → ℕ → Greeting → Plan
+greet g n f k c NotAllowed = turnAway notAllowed
+greet g n f k c Nok = turnAway nok
+greet g n f k c (OkSimultaneous mine) = does (heard n f k AwaitsReply c) (At mine) (welcomes g okSimultaneous c)
+greet g n f k c Alive = does (heard n f k AwaitsAlive 0) Nothing (statusMessage alive)
+greet g n f k c Ok = does (heard n f k AwaitsReply c) Nothing (welcomes g ok c)
 
--- c: the challenge lent to this call; b: the body. Bytes behind the name are ignored
 abbrev pub expectName : Endpoint → ℕ → List ℕ → Expected
 expectName g c b =
     record {
-      served = eqb (tagOf b) nameTag;
-      fits = leb (extent nameL b) (length b);
-      named = fullName (nameName b);
-      flagged = goodFlags (nameFlags b);
-      rule = greet g c b (greeting g (nameName b));
+      form = nameForm b;
+      rule = greet g (nameName b) (nameFlags b) (nameCreation b) c (greeting g (nameName b));
     }
 
 -- ---- awaits alive answer
@@ -83,8 +76,7 @@ onAlive g sl c w =
     (cond (sameBytes w falseWord) (does freeSlot Nothing []) (fails UnknownStatus))
 
 abbrev pub expectAlive : Endpoint → Slot → ℕ → List ℕ → Expected
-expectAlive g sl c b =
-    record { served = eqb (tagOf b) statusTag; fits = true; named = true; flagged = true; rule = onAlive g sl c (statusWord b) }
+expectAlive g sl c b = record { form = statusForm b; rule = onAlive g sl c (statusWord b) }
 
 -- ---- awaits reply
 
@@ -96,10 +88,7 @@ older g sl = freedAt (lowest Linked (nameBytes (sl .name)) g) (isSlot (lowest Li
 abbrev pub expectReply : Endpoint → Slot → List ℕ → Expected
 expectReply g sl b =
     record {
-      served = eqb (tagOf b) replyTag;
-      fits = eqb (length b) (extent replyL b);
-      named = true;
-      flagged = true;
+      form = replyForm b;
       rule =
           proven (sl .challenge) (replyDigest b)
           (record { slot = moved sl Connected; other = older g sl; writes = ack (replyChallenge b) });

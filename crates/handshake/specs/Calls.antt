@@ -3,7 +3,7 @@ use Prim.Native.Nat.{ℕ}
 use mathlib.Core.Bool.{Bool, true, false, not, _||_}
 use mathlib.Core.List.{List, [], _∷_, _++_}
 use lib.ListN.{length}
-use lib.Dec.{ltb}
+use lib.Dec.{leb, ltb, eqb}
 use Rattle.wire.specs.Run.{sameBytes}
 use Rattle.wire.specs.Frame.{isFrame, body}
 use Rattle.names.specs.Held.{nameOf, nameBytes}
@@ -22,10 +22,11 @@ use Rattle.handshake.specs.declared.endpoint.Answer.the-variants.{Refuse
 use Rattle.handshake.specs.declared.endpoint.Told.{Told}
 use Rattle.handshake.specs.Refusals.{Test, _given-if_, checked, unless}
 use Rattle.handshake.specs.Flags.{goodFlags}
-use Rattle.handshake.specs.Endpoint.{fresh, idle, linked, isA, slotAt, put, freed, vacant, lowest, lowestFree, isSlot}
+use Rattle.handshake.specs.Endpoint.{fresh, idle, linked, kind, slotAt, put, freed, vacant, lowest, lowestFree, isSlot}
 use Rattle.handshake.specs.Messages.{nameMessage}
+use Rattle.handshake.specs.Forms.{formTests}
 use Rattle.handshake.specs.Cookie.{Cookies, checking, writing, fit}
-use Rattle.handshake.specs.Plans.{Done, Plan, fails, Expected, bodyTests, stagePlan, concluded}
+use Rattle.handshake.specs.Plans.{Done, Plan, fails, Expected, concluded}
 use Rattle.handshake.specs.Accepting.{expectName, expectAlive, expectReply}
 use Rattle.handshake.specs.Connecting.{expectStatus, expectChallenge, expectAck}
 
@@ -104,7 +105,7 @@ closeOf g s = unless (kept g) (record { answer = Closed; endpoint = freed g s })
 
 -- no message is served on a free or a connected slot
 abbrev pub nothing : Expected
-nothing = record { served = false; fits = true; named = true; flagged = true; rule = fails UnknownTag }
+nothing = record { form = record { served = false; fits = true; named = true; flagged = true }; rule = fails UnknownTag }
 
 -- g: the endpoint; sl: the slot's record; c: the challenge lent to this call; b: the body
 unfoldable pub expected : Endpoint → Slot → ℕ → List ℕ → Stage → Expected
@@ -121,21 +122,22 @@ expected g sl c b Connected = nothing
 abbrev pub awaited : Endpoint → ℕ → List ℕ → ℕ → Expected
 awaited g s f c = expected g (slotAt g s) c (body f) (slotAt g s .stage)
 
--- "Order, message: 1, 2, 10, 11, 3, 4, 5, 6, 9, then the stage's rule." size: how long the lent output is; ok: whether the needed cookies are allowed
-abbrev pub earlyTests : Endpoint → ℕ → ℕ → Bool → List Test
-earlyTests g s size ok =
-    OutputTooShort given-if ltb size room ∷ SlotNotTaken given-if vacant g s
-    ∷ AlreadyConnected given-if isA linked (slotAt g s) ∷ BadCookie given-if not ok ∷ []
+-- "Order, message: 1, 2, 10, 11, 3, 4, 5, 6, 9, then the stage's rule." st: the slot's stage; size: how long the lent output is; ok: whether the
+-- needed cookies are allowed
+abbrev pub earlyTests : ℕ → Stage → ℕ → Bool → List Test
+earlyTests s st size ok =
+    OutputTooShort given-if ltb size room ∷ SlotNotTaken given-if (leb 32 s || eqb (kind st) idle)
+    ∷ AlreadyConnected given-if eqb (kind st) linked ∷ BadCookie given-if not ok ∷ []
 
 abbrev pub frameTests : List ℕ → List Test
 frameTests f = NotAFrame given-if not (isFrame f) ∷ []
 
 abbrev pub messageTests : Endpoint → ℕ → ℕ → Bool → List ℕ → Expected → List Test
-messageTests g s size ok f e = earlyTests g s size ok ++ (frameTests f ++ bodyTests e)
+messageTests g s size ok f e = earlyTests s (slotAt g s .stage) size ok ++ (frameTests f ++ formTests (e .form))
 
 unfoldable pub plan : Endpoint → ℕ → List ℕ → ℕ → ℕ → Bool → Plan
 plan g s f c size ok = unless fails (awaited g s f c .rule) (checked (messageTests g s size ok f (awaited g s f c)))
 
 unfoldable pub messageOf : Cookies → Endpoint → ℕ → List ℕ → ℕ → ℕ → Done
 messageOf k g s f c size =
-    concluded (checking k) (writing k) g s (plan g s f c size (fit (slotAt g s .stage) k))
+    concluded (checking k) (writing k) g s (plan g s f c size (fit (slotAt g s .stage) (checking k) (writing k)))

@@ -31,23 +31,23 @@ abbrev pub writing : Cookies → List ℕ
 writing k = chosen (k .own) (k .standard)
 
 -- "11 is tested only where a challenge to us, a reply or an acknowledgement is awaited": the cookies that a message needs
-abbrev pub needed : Stage → Cookies → List (List ℕ)
-needed Free k = []
-needed AwaitsName k = []
-needed AwaitsAlive k = []
-needed AwaitsReply k = checking k ∷ []
-needed AwaitsStatus k = []
-needed AwaitsChallenge k = writing k ∷ []
-needed AwaitsAck k = checking k ∷ []
-needed Connected k = []
+abbrev pub needed : Stage → (check write : List ℕ) → List (List ℕ)
+needed Free check write = []
+needed AwaitsName check write = []
+needed AwaitsAlive check write = []
+needed AwaitsReply check write = check ∷ []
+needed AwaitsStatus check write = []
+needed AwaitsChallenge check write = write ∷ []
+needed AwaitsAck check write = check ∷ []
+needed Connected check write = []
 
 -- "Allowed: 1 to 255 bytes."
-abbrev pub allowed : List ℕ → Bool
+unfoldable pub allowed : List ℕ → Bool
 allowed k = leb 1 (length k) && leb (length k) 255
 
 abbrev pub every : List Bool → Bool
 every [] = true
 every (b ∷ bs) = b && every bs
 
-unfoldable pub fit : Stage → Cookies → Bool
-fit st k = every (map allowed (needed st k))
+unfoldable pub fit : Stage → (check write : List ℕ) → Bool
+fit st check write = every (map allowed (needed st check write))

@@ -6,6 +6,7 @@ use lib.ListN.{getD, set, replicate}
 use lib.Dec.{leb, ltb, eqb}
 use Rattle.wire.specs.Run.{sameBytes}
 use Rattle.wire.specs.Lookup.{firstAt}
+use Rattle.names.specs.declared.held.Name.{Name}
 use Rattle.names.specs.Held.{nameOf, nameBytes}
 use Rattle.handshake.specs.declared.endpoint.Stage.{Stage}
 use Rattle.handshake.specs.declared.endpoint.Stage.the-variants.{Free, AwaitsName, AwaitsAlive, AwaitsReply, AwaitsStatus, AwaitsChallenge, AwaitsAck, Connected}
@@ -21,8 +22,11 @@ abbrev pub freeSlot : Slot
 freeSlot = record { stage = Free; name = nameOf []; flags = 0; creation = 0; challenge = 0 }
 
 -- an endpoint with all slots free
+abbrev pub unused : Name → ℕ → ℕ → Endpoint
+unused n f c = record { name = n; flags = f; creation = c; slots = replicate 32 freeSlot }
+
 abbrev pub fresh : List ℕ → ℕ → ℕ → Endpoint
-fresh n f c = record { name = nameOf n; flags = f; creation = c; slots = replicate 32 freeSlot }
+fresh n f c = unused (nameOf n) f c
 
 -- ---- what a slot is: free, an accepted one in progress, a started one in progress, or connected
 
@@ -69,7 +73,7 @@ freeOther g (At s) = freed g s
 
 -- "slot number ≥ 32, or slot free"
 abbrev pub vacant : Endpoint → ℕ → Bool
-vacant g s = leb 32 s || isA idle (slotAt g s)
+vacant g s = leb 32 s || eqb (kind (slotAt g s .stage)) idle
 
 -- ---- look-up
 

@@ -1,5 +1,6 @@
 // The handshake endpoint (01's gate): handshakes of version 6, as initiator and as acceptor.
 mod accepting;
+mod connecting;
 mod cookie;
 mod endpoint;
 mod refusal;
