@@ -1,6 +1,6 @@
 -- A slot becomes connected only by a message on that very slot, whose digest is that of the slot's own challenge with the call's cookie. It holds of
 -- every slot and every endpoint. Assumes nothing.
-use Prim.Native.Nat.{ℕ, zero, suc}
+use Prim.Native.Nat.{ℕ}
 use mathlib.Core.Path.{_≡_, refl, sym, _∙_, ap, subst}
 use mathlib.Core.Logic.{_⊎_, inl, inr, ⊎-map, ⊎-elim}
 use mathlib.Core.Bool.{Bool, true, false, true≢false}
@@ -20,11 +20,11 @@ use Rattle.handshake.specs.declared.endpoint.Endpoint.{Endpoint}
 use Rattle.handshake.specs.declared.endpoint.Freed.{Freed}
 use Rattle.handshake.specs.declared.endpoint.Freed.the-variants.{Nothing, At}
 use Rattle.handshake.specs.Refusals.{messageFate}
-use Rattle.handshake.specs.Endpoint.{freeSlot, fresh, kind, linked, isA, slotAt, put, freed, freeOther}
+use Rattle.handshake.specs.Endpoint.{freeSlot, kind, linked, isA, slotAt, put, freeOther}
 use Rattle.handshake.specs.Cookie.{Cookies, checking, writing, fit, digestOf}
-use Rattle.handshake.specs.Plans.{Act, stop, go, Plan, sure, proven, judged, settled, spared, finished, concluded}
+use Rattle.handshake.specs.Plans.{stop, go, Plan, sure, proven, judged, settled, spared, finished, concluded}
 use Rattle.handshake.specs.Calls.{opened, startTests, arriveTests, closeTests, begun, arrived, silent, kept, startOf, arriveOf, closeOf, plan, messageOf}
-use Rattle.handshake.specs.Runs.{Call, Start, Arrive, Close, Message, step, next, Asked, ends}
+use Rattle.handshake.specs.Runs.{Start, Arrive, Close, Message, step, next, Asked, ends}
 use Rattle.handshake.specs.Claims.{Carries, Shown, ShownIn, OnlyByDigest, ConnectedByDigest}
 use Rattle.handshake.proofs.CheckLaws.{unless-elim}
 use Rattle.handshake.proofs.SlotLaws.{set-at, blank}

@@ -2,12 +2,10 @@
 -- hand back. Assumes nothing.
 use Prim.Native.Nat.{ℕ}
 use mathlib.Core.Path.{_≡_, refl, sym, _∙_, ap}
-use mathlib.Core.Bool.{Bool, true, false, _||_, not}
+use mathlib.Core.Bool.{Bool, true, false, not}
 use mathlib.Core.List.{List, [], _∷_}
 use native.Mathlib.Omega.{arith}
-use lib.ListN.{length, length-set, replicate}
-use Rattle.wire.specs.Run.{sameBytes}
-use Rattle.wire.specs.Frame.{body}
+use lib.ListN.{length, length-set}
 use Rattle.names.specs.Full.{fullName}
 use Rattle.handshake.specs.declared.refusal.Check.{Check}
 use Rattle.handshake.specs.declared.refusal.Check.the-variants.{Pass, Refuse}
@@ -19,13 +17,13 @@ use Rattle.handshake.specs.declared.endpoint.Making.the-variants.{Ready,
 use Rattle.handshake.specs.declared.endpoint.Made.{Made}
 use Rattle.handshake.specs.Refusals.{checked, unless}
 use Rattle.handshake.specs.Flags.{goodFlags}
-use Rattle.handshake.specs.Endpoint.{freeSlot, fresh, put, freed, freeOther, slotAt}
+use Rattle.handshake.specs.Endpoint.{freeSlot, fresh, put, freeOther}
 use Rattle.handshake.specs.Cookie.{Cookies}
-use Rattle.handshake.specs.Plans.{Act, stop, go, Plan, sure, proven}
+use Rattle.handshake.specs.Plans.{stop, go, Plan, sure, proven}
 use Rattle.handshake.specs.Calls.{newTests, notMade, newOf, awaited}
 use Rattle.handshake.specs.Runs.{Call, next, Asked, ends}
-use Rattle.handshake.specs.Claims.{MadeOf, Own, KeptWhole, MadeFresh}
-use Rattle.handshake.proofs.CheckLaws.{NoneHolds, none-holds}
+use Rattle.handshake.specs.Claims.{MadeOf, KeptWhole, MadeFresh}
+use Rattle.handshake.proofs.CheckLaws.{none-holds}
 use Rattle.handshake.proofs.PlanLaws.{Does, after-call}
 
 -- h has what g has but for its slots, of which there are as many

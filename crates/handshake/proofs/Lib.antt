@@ -1,4 +1,6 @@
 pub mod CheckLaws
+pub mod MessageLaws
+pub mod CookieLaws
 pub mod SlotLaws
 pub mod PlanLaws
 pub mod Secrecy

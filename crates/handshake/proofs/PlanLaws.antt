@@ -1,49 +1,36 @@
 -- Every plan, walked once: what is checked, what is connected, and how much is written. The other files use its parts. Assumes nothing.
 use Prim.Native.Nat.{ℕ, _+_, _≤_}
-use mathlib.Core.Path.{_≡_, refl, sym, ap}
-use mathlib.Core.Bool.{Bool, true, false, cond, _||_, not}
-use mathlib.Core.List.{List, [], _∷_, _++_}
+use mathlib.Core.Path.{_≡_, refl}
+use mathlib.Core.Bool.{Bool, true, false, cond}
+use mathlib.Core.List.{List, [], _++_}
 use native.Mathlib.Omega.{arith}
 use lib.ListN.{length, length-append}
-use Rattle.wire.specs.Run.{sameBytes, order}
-use Rattle.wire.specs.Frame.{framed, body}
+use Rattle.wire.specs.Run.{sameBytes}
+use Rattle.wire.specs.Frame.{body}
 use Rattle.names.specs.Held.{nameBytes}
 use Rattle.handshake.specs.declared.refusal.Refusal.{Refusal}
-use Rattle.handshake.specs.declared.refusal.Check.{Check}
-use Rattle.handshake.specs.declared.refusal.Check.the-variants.{Pass, Refuse}
 use Rattle.handshake.specs.declared.endpoint.Stage.{Stage}
 use Rattle.handshake.specs.declared.endpoint.Stage.the-variants.{Free, AwaitsName, AwaitsAlive, AwaitsReply, AwaitsStatus, AwaitsChallenge, AwaitsAck, Connected}
 use Rattle.handshake.specs.declared.endpoint.Slot.{Slot}
 use Rattle.handshake.specs.declared.endpoint.Endpoint.{Endpoint}
 use Rattle.handshake.specs.declared.accepting.Greeting.{Greeting}
 use Rattle.handshake.specs.declared.accepting.Greeting.the-variants.{NotAllowed, Nok, OkSimultaneous, Alive, Ok}
-use Rattle.handshake.specs.Refusals.{keep, free, messageFate, Test, checked, unless}
+use Rattle.handshake.specs.Refusals.{keep, free, messageFate, checked}
 use Rattle.handshake.specs.Endpoint.{slotAt, isA, linked, put, freed, freeOther}
-use Rattle.handshake.specs.Messages.{nameMessage, challengeMessage, statusMessage, nameFlags, nameCreation, nameName, statusWord, ok, okSimultaneous, nok, notAllowed, alive, trueWord, falseWord}
+use Rattle.handshake.specs.Messages.{statusMessage, nameFlags, nameCreation, nameName, statusWord, ok, okSimultaneous, nok, notAllowed, alive, trueWord, falseWord}
 use Rattle.handshake.specs.Cookie.{Cookies, checking, writing, fit, digestOf}
-use Rattle.handshake.specs.Plans.{Writes, plain, reply, ack, Act, Outcome, stop, go, Plan, sure, proven, fails, judged, settled, spared, finished, concluded, challengeOf}
+use Rattle.handshake.specs.Plans.{Writes, plain, reply, ack, stop, go, Plan, sure, proven, fails, judged, settled, spared, finished, concluded, challengeOf}
 use Rattle.handshake.specs.declared.connecting.Reaction.{Reaction}
 use Rattle.handshake.specs.declared.connecting.Reaction.the-variants.{Proceed, Confirm, GiveUp, Unknown}
 use Rattle.handshake.specs.Accepting.{greeting, greet}
 use Rattle.handshake.specs.Connecting.{reaction, onStatus}
-use Rattle.handshake.specs.Calls.{startTests, arriveTests, closeTests, newTests, nameOut, begun, silent, kept, arrived, startOf, arriveOf, closeOf, expected, awaited, messageTests, plan, messageOf}
+use Rattle.handshake.specs.Calls.{startTests, arriveTests, closeTests, begun, silent, kept, arrived, startOf, arriveOf, closeOf, expected, awaited, messageTests, plan, messageOf}
 use Rattle.handshake.specs.Runs.{Call, Start, Arrive, Close, Message, step, next}
 use Rattle.handshake.specs.Claims.{Carries, by-reply, by-ack}
 use Rattle.handshake.proofs.CheckLaws.{NoneHolds, unless-elim}
+use Rattle.handshake.proofs.MessageLaws.{challenge-size, status-size}
 
 -- ---- sizes
-
-pub name-size : (f c : ℕ) (n : List ℕ) → length (nameMessage f c n) ≡ 17 + length n
-unfolding nameMessage framed
-name-size f c n = simp length-append (omega arith)
-
-pub challenge-size : (f h c : ℕ) (n : List ℕ) → length (challengeMessage f h c n) ≡ 21 + length n
-unfolding challengeMessage framed
-challenge-size f h c n = simp length-append (omega arith)
-
-pub status-size : (w : List ℕ) → length (statusMessage w) ≡ 3 + length w
-unfolding statusMessage framed
-status-size w = omega arith
 
 -- at most 294 bytes; a digest's message is short
 abbrev pub Small : Writes → Type 0

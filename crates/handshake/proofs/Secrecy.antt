@@ -4,7 +4,7 @@
 use Prim.Native.Nat.{ℕ, _+_, _-_, _≤_, _<_}
 use mathlib.Core.Path.{_≡_, refl, sym, _∙_, ap, subst}
 use mathlib.Core.Bool.{Bool, true, false, cond, _&&_, not, true≢false}
-use mathlib.Core.List.{List, [], _∷_, _++_, append-nil, map}
+use mathlib.Core.List.{List, [], _∷_, _++_, map}
 use mathlib.Core.Option.{some}
 use native.Mathlib.Omega.{arith}
 use lib.ListN.{length, getD, drop, length-append, length-drop, List·getD-append}
@@ -13,28 +13,22 @@ use lib.Dec.{leb, ltb}
 use borrow.Author.Tests.{ltb-false, leb-false}
 use Rattle.wire.specs.Run.{sameBytes}
 use Rattle.wire.specs.Number.{be}
-use Rattle.wire.specs.Frame.{framed}
 use Rattle.wire.specs.Output.{written}
-use Rattle.wire.specs.Decimal.{decimal}
-use Rattle.md5.specs.Md5.{md5}
 use Rattle.handshake.specs.declared.refusal.Refusal.the-variants.{OutputTooShort, SlotNotTaken, AlreadyConnected, BadCookie}
 use Rattle.handshake.specs.declared.endpoint.Endpoint.{Endpoint}
 use Rattle.handshake.specs.declared.endpoint.Made.{Made}
 use Rattle.handshake.specs.Refusals.{Test, _given-if_, checked, unless}
 use Rattle.handshake.specs.Endpoint.{slotAt, isA, linked, vacant}
-use Rattle.handshake.specs.Messages.{replyMessage, ackMessage}
 use Rattle.handshake.specs.Forms.{formTests}
 use Rattle.handshake.specs.Cookie.{digestOf, Cookies, checking, writing, needed, allowed, every, fit}
-use Rattle.handshake.specs.Plans.{Done, Writes, plain, reply, ack, Act, Outcome, stop, go, Plan, sure, proven, fails, judged, settled, render, finished, concluded}
+use Rattle.handshake.specs.Plans.{Writes, plain, reply, ack, Act, Outcome, stop, go, Plan, sure, proven, fails, judged, settled, render, finished}
 use Rattle.handshake.specs.Calls.{room, messageOf, awaited, frameTests, plan}
 use Rattle.handshake.specs.Runs.{Call, Start, Arrive, Close, Message, step, next, left, used, verdict, checkOf, writesOf, writes, excepted, Given, Moment, moments, differ, splits, beforeSplit, All, Alike, Same, Agree}
 use Rattle.handshake.specs.Claims.{Demand3}
+use Rattle.handshake.proofs.MessageLaws.{reply-head, ack-head}
+use Rattle.handshake.proofs.CookieLaws.{digest-sixteen}
 
 -- ---- the bytes written
-
-pub digest-sixteen : (c : ℕ) (k : List ℕ) → length (digestOf c k) ≡ 16
-unfolding digestOf md5
-digest-sixteen c k = refl
 
 -- bytes apart from n to n + 16 do not depend on the sixteen bytes that stand there
 past : (xs ys : List ℕ) (i : ℕ) → length xs ≤ i → getD (xs ++ ys) i 0 ≡ getD ys (i - length xs) 0
@@ -68,15 +62,6 @@ around h d₁ d₂ out n i hn h₁ h₂ e =
         let ge : n + 16 ≤ i = ltb-false i (n + 16) q in
         past (h ++ d₁) r i (omega (arith, l₁)) ∙ ap (λ (m : ℕ). getD r (i - m) 0) (l₁ ∙ sym l₂) ∙ sym (past (h ++ d₂) r i (omega (arith, l₂)))
     cases false b p q e = let lt : i < n = leb-false n i p in front d₁ h₁ lt ∙ sym (front d₂ h₂ lt)
-
--- a reply and an acknowledgement are a head of seven and of three bytes, and the digest
-reply-head : (c : ℕ) (d : List ℕ) → length d ≡ 16 → replyMessage c d ≡ (be 2 21 ++ 114 ∷ be 4 c) ++ d
-unfolding replyMessage framed
-reply-head c d h = simp (h, append-nil)
-
-ack-head : (d : List ℕ) → length d ≡ 16 → ackMessage d ≡ (be 2 17 ++ 97 ∷ []) ++ d
-unfolding ackMessage framed
-ack-head d h = simp (h, append-nil)
 
 pub render-size : (k₁ k₂ : List ℕ) (w : Writes) → length (render k₁ w) ≡ length (render k₂ w)
 unfolding render

@@ -1,43 +1,27 @@
 -- What a call writes is at most 294 bytes, so that it fits the 300 that are asked for. Assumes nothing.
-use Prim.Native.Nat.{ℕ, _+_, _≤_}
-use mathlib.Core.Path.{_≡_, refl, sym, _∙_, ap}
-use mathlib.Core.Bool.{Bool, true, false, _&&_, not}
-use mathlib.Core.List.{List, []}
+use Prim.Native.Nat.{ℕ, _≤_}
+use mathlib.Core.Path.{_≡_, _∙_, ap}
+use mathlib.Core.Bool.{Bool, true, false}
+use mathlib.Core.List.{List}
 use native.Mathlib.Omega.{arith}
-use lib.ListN.{length, length-append}
-use lib.Dec.{leb}
-use borrow.Author.Tests.{leb-true}
+use lib.ListN.{length}
 use Rattle.wire.specs.Run.{sameBytes}
-use Rattle.wire.specs.Frame.{framed, body}
-use Rattle.wire.proofs.RunLaws.{and-left, and-right}
-use Rattle.names.specs.Held.{nameOf, nameBytes}
-use Rattle.names.specs.Full.{fullName}
+use Rattle.wire.specs.Frame.{body}
+use Rattle.names.specs.Held.{nameBytes}
 use Rattle.names.proofs.HeldLaws.{name-back}
 use Rattle.handshake.specs.declared.endpoint.Slot.{Slot}
 use Rattle.handshake.specs.declared.endpoint.Endpoint.{Endpoint}
 use Rattle.handshake.specs.Endpoint.{slotAt}
-use Rattle.handshake.specs.Messages.{replyMessage, ackMessage}
 use Rattle.handshake.specs.Cookie.{Cookies, checking, writing, fit, digestOf}
 use Rattle.handshake.specs.Plans.{Done, Writes, plain, reply, ack, stop, go, Plan, sure, proven, judged, settled, render, finished, concluded}
-use Rattle.handshake.specs.Calls.{startTests, arriveTests, closeTests, begun, arrived, silent, kept, nameOut, startOf, arriveOf, closeOf, plan, messageOf}
+use Rattle.handshake.specs.Calls.{startTests, begun, silent, kept, startOf, arriveOf, closeOf, plan, messageOf}
 use Rattle.handshake.specs.Runs.{Call, Start, Arrive, Close, Message, step, ends}
 use Rattle.handshake.specs.Claims.{WritesLittle}
 use Rattle.handshake.proofs.CheckLaws.{unless-elim}
-use Rattle.handshake.proofs.PlanLaws.{name-size, Small, Sane, sane}
-use Rattle.handshake.proofs.Secrecy.{digest-sixteen}
+use Rattle.handshake.proofs.MessageLaws.{full-short, name-size, reply-size, ack-size}
+use Rattle.handshake.proofs.CookieLaws.{digest-sixteen}
+use Rattle.handshake.proofs.PlanLaws.{Small, Sane, sane}
 use Rattle.handshake.proofs.Kept.{kept-whole}
-
-pub full-short : (n : List ℕ) → fullName n ≡ true → length n ≤ 255
-unfolding fullName
-full-short n h = leb-true (length n) 255 (and-right (leb 3 (length n)) _ (and-left _ _ (and-left _ _ (and-left _ _ h))))
-
-pub reply-size : (c : ℕ) (d : List ℕ) → length d ≡ 16 → length (replyMessage c d) ≡ 23
-unfolding replyMessage framed
-reply-size c d h = simp (length-append, h)
-
-pub ack-size : (d : List ℕ) → length d ≡ 16 → length (ackMessage d) ≡ 19
-unfolding ackMessage framed
-ack-size d h = simp (length-append, h)
 
 small : (k : List ℕ) (w : Writes) → Small w → length (render k w) ≤ 294
 unfolding render

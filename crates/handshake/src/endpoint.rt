@@ -1,8 +1,16 @@
 // The state of a handshake endpoint (01's gate), and its slots.
+use crate::flags::good_flags;
 use crate::refusal::Refusal;
 use names::Name;
 ghost use mathlib.Core.Path.{_≡_};
-ghost use Rattle.handshake.specs.Endpoint.{kind};
+ghost use mathlib.Core.Bool.{_&&_};
+ghost use Prim.Native.Nat.{_<_};
+ghost use Rattle.wire.specs.Run.{sameBytes};
+ghost use Rattle.wire.specs.Lookup.{firstAt};
+ghost use Rattle.names.specs.Held.{nameBytes};
+ghost use Rattle.handshake.specs.Endpoint as state;
+ghost use Rattle.handshake.specs.Plans.{refused, answers};
+ghost use Rattle.handshake.specs.Calls.{notMade, newOf, arriveOf, closeOf};
 
 // Free is the first: what is read past the end of an array is free.
 pub enum Stage {
@@ -86,7 +94,7 @@ pub(crate) enum Sought {
 
 // 0 free, 1 accepted and in progress, 2 started and in progress, 3 connected.
 pub(crate) fn kind_of(stage: Stage) -> u8
-    ensures { λ r. ⌜ r ≡ kind stage ⌝ }
+    ensures { λ r. ⌜ r ≡ state.kind stage ⌝ }
 {
     match stage {
         Stage::Free => 0,
@@ -97,5 +105,219 @@ pub(crate) fn kind_of(stage: Stage) -> u8
         Stage::AwaitsChallenge => 2,
         Stage::AwaitsAck => 2,
         Stage::Connected => 3,
+    }
+}
+
+// All of a free slot is zero or empty.
+pub(crate) fn free_slot() -> Slot
+    ensures { λ r. ⌜ r ≡ state.freeSlot ⌝ }
+{
+    let n = Name::empty();
+    Slot {
+        stage: Stage::Free,
+        name: n,
+        flags: 0,
+        creation: 0,
+        challenge: 0,
+    }
+}
+
+fn unused(name: Name, flags: u64, creation: u32) -> Endpoint
+    ensures { λ r. ⌜ r ≡ state.unused name flags creation ⌝ }
+{
+    Endpoint {
+        name,
+        flags,
+        creation,
+        slots: [free_slot(); 32],
+    }
+}
+
+fn not_made(why: Refusal) -> Made
+    ensures { λ r. ⌜ r ≡ notMade why ⌝ }
+{
+    let e = unused(Name::empty(), 0, 0);
+    Made {
+        making: Making::NotMade(why),
+        endpoint: e,
+    }
+}
+
+impl Slot {
+    // Whether a slot that may be meant has this peer.
+    fn is_peer(self, meant: bool, name: &[u8]) -> bool
+        ensures { λ r. ⌜ r ≡ (meant && sameBytes (nameBytes (self .name)) (now (name .entry))) ⌝ }
+    {
+        if !meant {
+            return false;
+        }
+        let n = self.name;
+        n.is(name)
+    }
+
+    fn is_sought(self, what: Sought, name: &[u8]) -> bool
+        ensures { λ r. ⌜ r ≡ state.sought what (now (name .entry)) self ⌝ }
+    {
+        let stage = self.stage;
+        let k = kind_of(stage);
+        match what {
+            Sought::AnyFree => k == 0,
+            Sought::Accepted => self.is_peer(k == 1, name),
+            Sought::Started => self.is_peer(k == 2, name),
+            Sought::Linked => self.is_peer(k == 3, name),
+            Sought::AnyTaken => self.is_peer(k != 0, name),
+        }
+    }
+}
+
+impl Endpoint {
+    // Refuses a name that is no full name, then flags that are not good.
+    pub fn new(name: &[u8], flags: u64, creation: u32) -> Made
+        ensures { λ r. ⌜ r ≡ newOf (now (name .entry)) flags creation ⌝ }
+    {
+        if !names::is_full_name(name) {
+            return not_made(Refusal::BadName);
+        }
+        if !good_flags(flags) {
+            return not_made(Refusal::BadFlags);
+        }
+        let e = unused(Name::of(name), flags, creation);
+        Made {
+            making: Making::Ready,
+            endpoint: e,
+        }
+    }
+
+    // A slot's record; past the last slot, that of a free one.
+    pub fn slot(self, at: usize) -> Slot
+        ensures { λ r. ⌜ r ≡ state.slotAt self at ⌝ }
+    {
+        if 32 <= at {
+            return free_slot();
+        }
+        self.slots[at]
+    }
+
+    // The lowest slot that is sought, or 32.
+    pub(crate) fn find(self, what: Sought, name: &[u8]) -> usize
+        ensures { λ r. ⌜ r ≡ firstAt (state.sought what (now (name .entry))) (self .slots) ⌝ }
+    {
+        let mut i: usize = 0;
+        while i < 32 {
+            let s = self.slots[i];
+            if s.is_sought(what, name) {
+                return i;
+            }
+            i += 1;
+        }
+        i
+    }
+
+    pub(crate) fn with(self, at: usize, slot: Slot) -> Endpoint
+        requires { ⌜ at < 32 ⌝ }
+        ensures { λ r. ⌜ r ≡ state.put self at slot ⌝ }
+    {
+        let mut e = self;
+        e.slots[at] = slot;
+        e
+    }
+
+    pub(crate) fn without(self, at: usize) -> Endpoint
+        requires { ⌜ at < 32 ⌝ }
+        ensures { λ r. ⌜ r ≡ state.freed self at ⌝ }
+    {
+        let s = free_slot();
+        self.with(at, s)
+    }
+
+    // A message is refused: as the number says, everything is kept or the slot is freed.
+    pub(crate) fn refuse(self, at: usize, why: Refusal) -> Told
+        ensures { λ r. ⌜ r ≡ refused self at why .told ⌝ }
+    {
+        if 32 <= at {
+            return Told {
+                answer: Answer::Refused(why),
+                endpoint: self,
+            };
+        }
+        if !why.frees() {
+            return Told {
+                answer: Answer::Refused(why),
+                endpoint: self,
+            };
+        }
+        let e = self.without(at);
+        Told {
+            answer: Answer::Refused(why),
+            endpoint: e,
+        }
+    }
+
+    // A message is answered: the slot has its next record.
+    pub(crate) fn answer(self, at: usize, slot: Slot, freed: Freed, count: usize) -> Told
+        requires { ⌜ at < 32 ⌝ }
+        ensures { λ r. ⌜ r ≡ answers self at slot freed count ⌝ }
+    {
+        let stage = slot.stage;
+        let e = self.with(at, slot);
+        Told {
+            answer: Answer::Answered {
+                stage,
+                freed,
+                count,
+            },
+            endpoint: e,
+        }
+    }
+
+    // Takes the lowest free slot, which then awaits a name.
+    pub fn arrive(self) -> Told
+        ensures { λ r. ⌜ r ≡ arriveOf self ⌝ }
+    {
+        let at = self.find(Sought::AnyFree, b"");
+        if 32 <= at {
+            return Told {
+                answer: Answer::Refused(Refusal::NoFreeSlot),
+                endpoint: self,
+            };
+        }
+        let n = Name::empty();
+        let s = Slot {
+            stage: Stage::AwaitsName,
+            name: n,
+            flags: 0,
+            creation: 0,
+            challenge: 0,
+        };
+        let e = self.with(at, s);
+        Told {
+            answer: Answer::Arrived { slot: at },
+            endpoint: e,
+        }
+    }
+
+    // Frees any taken slot.
+    pub fn close(self, at: usize) -> Told
+        ensures { λ r. ⌜ r ≡ closeOf self at ⌝ }
+    {
+        if 32 <= at {
+            return Told {
+                answer: Answer::Refused(Refusal::SlotNotTaken),
+                endpoint: self,
+            };
+        }
+        let s = self.slot(at);
+        let stage = s.stage;
+        if kind_of(stage) == 0 {
+            return Told {
+                answer: Answer::Refused(Refusal::SlotNotTaken),
+                endpoint: self,
+            };
+        }
+        let e = self.without(at);
+        Told {
+            answer: Answer::Closed,
+            endpoint: e,
+        }
     }
 }

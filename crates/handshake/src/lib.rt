@@ -3,6 +3,7 @@ mod accepting;
 mod connecting;
 mod cookie;
 mod endpoint;
+mod flags;
 mod refusal;
 
 pub use endpoint::Answer;
