@@ -1,6 +1,8 @@
 -- Laws of checks: what a list of tests comes to. Assumes nothing.
-use mathlib.Core.Path.{_≡_, refl}
-use mathlib.Core.Bool.{true, false}
+use borrow.Author.Tests.{eq-eqb, ne-eqb, not-true, not-false}
+use lib.Dec.{eqb}
+use mathlib.Core.Path.{_≡_, refl, sym, _∙_}
+use mathlib.Core.Bool.{true, false, Bool, not}
 use mathlib.Core.List.{List, [], _∷_, _++_}
 use Prim.Native.Nat.{ℕ}
 use native.Mathlib.Omega.{arith}
@@ -8,6 +10,25 @@ use Rattle.handshake.specs.declared.refusal.Refusal.{Refusal}
 use Rattle.handshake.specs.declared.refusal.Check.{Check}
 use Rattle.handshake.specs.declared.refusal.Check.the-variants.{Pass, Refuse}
 use Rattle.handshake.specs.Refusals.{Test, _given-if_, checked, unless}
+
+-- ---- what a call or a comparison told
+
+pub said-eq : {r x : ℕ} (t : ℕ) → r ≡ x → r ≡ t → eqb x t ≡ true
+said-eq {r} {x} t e h = eq-eqb x t (sym e ∙ h)
+
+pub said-ne : {r x : ℕ} (t : ℕ) → r ≡ x → (r ≡ t → ⊥) → eqb x t ≡ false
+said-ne {r} {x} t e h = ne-eqb x t (λ z. h (e ∙ z))
+
+pub said-yes : {r x : Bool} → r ≡ x → not r ≡ false → x ≡ true
+said-yes {r} {x} e h = sym e ∙ not-false r h
+
+pub said-no : {r x : Bool} → r ≡ x → not r ≡ true → x ≡ false
+said-no {r} {x} e h = sym e ∙ not-true r h
+
+pub not-not : (b : Bool) → not b ≡ false → b ≡ true
+not-not b h = not-false b h
+
+-- ---- lists of tests
 
 -- tests that follow others are tried if none of those holds
 abbrev pub andThen : Check → Check → Check

@@ -2,7 +2,7 @@
 -- hand back. Assumes nothing.
 use Prim.Native.Nat.{ℕ}
 use mathlib.Core.Path.{_≡_, refl, sym, _∙_, ap}
-use mathlib.Core.Bool.{Bool, true, false, not}
+use mathlib.Core.Bool.{true}
 use mathlib.Core.List.{List, [], _∷_}
 use native.Mathlib.Omega.{arith}
 use lib.ListN.{length, length-set}
@@ -23,7 +23,7 @@ use Rattle.handshake.specs.Plans.{stop, go, Plan, sure, proven}
 use Rattle.handshake.specs.Calls.{newTests, notMade, newOf, awaited}
 use Rattle.handshake.specs.Runs.{Call, next, Asked, ends}
 use Rattle.handshake.specs.Claims.{MadeOf, KeptWhole, MadeFresh}
-use Rattle.handshake.proofs.CheckLaws.{none-holds}
+use Rattle.handshake.proofs.CheckLaws.{none-holds, not-not}
 use Rattle.handshake.proofs.PlanLaws.{Does, after-call}
 
 -- h has what g has but for its slots, of which there are as many
@@ -71,10 +71,6 @@ record Passed (n : List ℕ) (f c : ℕ) (g : Endpoint) : Type 0 where
   is : g ≡ fresh n f c
   full : fullName n ≡ true
   good : goodFlags f ≡ true
-
-not-not : (b : Bool) → not b ≡ false → b ≡ true
-not-not true e = refl
-not-not false e = let z : _≡_ {A = ℕ} 0 1 = cc in absurd (omega arith)
 
 made-passed : (n : List ℕ) (f c : ℕ) (g : Endpoint) → MadeOf n f c g → Passed n f c g
 unfolding newOf

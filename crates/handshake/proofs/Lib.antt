@@ -3,6 +3,7 @@ pub mod MessageLaws
 pub mod CookieLaws
 pub mod SlotLaws
 pub mod PlanLaws
+pub mod StageLaws
 pub mod Secrecy
 pub mod Connected
 pub mod Refused

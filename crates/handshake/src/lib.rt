@@ -4,7 +4,10 @@ mod connecting;
 mod cookie;
 mod endpoint;
 mod flags;
+mod recv;
 mod refusal;
+mod send;
+mod start;
 
 pub use endpoint::Answer;
 pub use endpoint::Endpoint;
