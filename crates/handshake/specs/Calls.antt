@@ -138,6 +138,13 @@ messageTests g s size ok f e = earlyTests s (slotAt g s .stage) size ok ++ (fram
 unfoldable pub plan : Endpoint → ℕ → List ℕ → ℕ → ℕ → Bool → Plan
 plan g s f c size ok = unless fails (awaited g s f c .rule) (checked (messageTests g s size ok f (awaited g s f c)))
 
+-- what a message comes to that is not refused with 1, 2, 10 or 11, on a slot of the stage st
+unfoldable pub framed : List ℕ → List ℕ → Endpoint → ℕ → Stage → List ℕ → ℕ → Done
+framed check write g s st f c =
+    concluded check write g s
+    (unless fails (expected g (slotAt g s) c (body f) st .rule)
+    (checked (frameTests f ++ formTests (expected g (slotAt g s) c (body f) st .form))))
+
 unfoldable pub messageOf : Cookies → Endpoint → ℕ → List ℕ → ℕ → ℕ → Done
 messageOf k g s f c size =
     concluded (checking k) (writing k) g s (plan g s f c size (fit (slotAt g s .stage) (checking k) (writing k)))

@@ -9,7 +9,7 @@ ghost use Rattle.wire.specs.Run.{sameBytes};
 ghost use Rattle.wire.specs.Lookup.{firstAt};
 ghost use Rattle.names.specs.Held.{nameBytes};
 ghost use Rattle.handshake.specs.Endpoint as state;
-ghost use Rattle.handshake.specs.Plans.{refused, answers};
+ghost use Rattle.handshake.specs.Plans as plans;
 ghost use Rattle.handshake.specs.Calls.{notMade, newOf, arriveOf, closeOf};
 
 // Free is the first: what is read past the end of an array is free.
@@ -119,6 +119,20 @@ pub(crate) fn free_slot() -> Slot
         flags: 0,
         creation: 0,
         challenge: 0,
+    }
+}
+
+// A slot at another stage, with the challenge that was sent on it.
+pub(crate) fn sent(slot: Slot, stage: Stage, challenge: u32) -> Slot
+    ensures { λ r. ⌜ r ≡ plans.sent slot stage challenge ⌝ }
+{
+    let n = slot.name;
+    Slot {
+        stage,
+        name: n,
+        flags: slot.flags,
+        creation: slot.creation,
+        challenge,
     }
 }
 
@@ -232,7 +246,7 @@ impl Endpoint {
 
     // A message is refused: as the number says, everything is kept or the slot is freed.
     pub(crate) fn refuse(self, at: usize, why: Refusal) -> Told
-        ensures { λ r. ⌜ r ≡ refused self at why .told ⌝ }
+        ensures { λ r. ⌜ r ≡ plans.refused self at why .told ⌝ }
     {
         if 32 <= at {
             return Told {
@@ -256,7 +270,7 @@ impl Endpoint {
     // A message is answered: the slot has its next record.
     pub(crate) fn answer(self, at: usize, slot: Slot, freed: Freed, count: usize) -> Told
         requires { ⌜ at < 32 ⌝ }
-        ensures { λ r. ⌜ r ≡ answers self at slot freed count ⌝ }
+        ensures { λ r. ⌜ r ≡ plans.answers self at slot freed count ⌝ }
     {
         let stage = slot.stage;
         let e = self.with(at, slot);

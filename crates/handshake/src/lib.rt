@@ -4,6 +4,7 @@ mod connecting;
 mod cookie;
 mod endpoint;
 mod flags;
+mod message;
 mod recv;
 mod refusal;
 mod send;
