@@ -9,3 +9,8 @@ pub mod Connected
 pub mod Refused
 pub mod Kept
 pub mod Size
+pub mod Recorded
+pub mod Answers
+pub mod ReadBack
+pub mod Peers
+pub mod Lasting

@@ -26,8 +26,8 @@ use Rattle.handshake.specs.Accepting.{greeting, greet}
 use Rattle.handshake.specs.Connecting.{reaction, onStatus}
 use Rattle.handshake.specs.Calls.{startTests, arriveTests, closeTests, begun, silent, kept, arrived, startOf, arriveOf, closeOf, expected, awaited, messageTests, plan, messageOf}
 use Rattle.handshake.specs.Runs.{Call, Start, Arrive, Close, Message, step, next}
-use Rattle.handshake.specs.Claims.{Carries, by-reply, by-ack}
-use Rattle.handshake.proofs.CheckLaws.{NoneHolds, unless-elim}
+use Rattle.handshake.specs.Claims.{Carries, by-reply, by-ack, NoneHolds}
+use Rattle.handshake.proofs.CheckLaws.{unless-elim}
 use Rattle.handshake.proofs.MessageLaws.{challenge-size, status-size}
 
 -- ---- sizes
