@@ -249,3 +249,28 @@ pub record Split (bs rest out : List ℕ) : Type 0 where
 
 abbrev pub FrameSplits : Type 0
 FrameSplits = (bs rest : List ℕ) → length bs ≤ 65535 → Split bs rest (framed bs ++ rest)
+
+-- ---- all of it (Promises.promises): a claim that is not proved is missed here
+pub record Promises : Type 0 where
+  pub demand3 : Demand3
+  pub only-by-digest : OnlyByDigest
+  pub connected-by-digest : ConnectedByDigest
+  pub refused-quietly : RefusedQuietly
+  pub kept-whole : KeptWhole
+  pub made-fresh : MadeFresh
+  pub writes-little : WritesLittle
+  pub recorded : Recorded
+  pub peers-apart : PeersApart
+  pub lasting : Lasting
+  pub made-unrefused : MadeUnrefused
+  pub started-unrefused : StartedUnrefused
+  pub arrived-unrefused : ArrivedUnrefused
+  pub closed-unrefused : ClosedUnrefused
+  pub message-unrefused : MessageUnrefused
+  pub answer-tells : AnswerTells
+  pub name-read-back : NameReadBack
+  pub challenge-read-back : ChallengeReadBack
+  pub status-read-back : StatusReadBack
+  pub reply-read-back : ReplyReadBack
+  pub ack-read-back : AckReadBack
+  pub frame-splits : FrameSplits

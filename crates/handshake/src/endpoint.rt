@@ -10,7 +10,7 @@ ghost use Rattle.wire.specs.Lookup.{firstAt};
 ghost use Rattle.names.specs.Held.{nameBytes};
 ghost use Rattle.handshake.specs.Endpoint as state;
 ghost use Rattle.handshake.specs.Plans as plans;
-ghost use Rattle.handshake.specs.Calls.{notMade, newOf, arriveOf, closeOf};
+ghost use Rattle.handshake.specs.Calls.{notMade, newOf};
 
 // Free is the first: what is read past the end of an array is free.
 pub enum Stage {
@@ -280,57 +280,6 @@ impl Endpoint {
                 freed,
                 count,
             },
-            endpoint: e,
-        }
-    }
-
-    // Takes the lowest free slot, which then awaits a name.
-    pub fn arrive(self) -> Told
-        ensures { λ r. ⌜ r ≡ arriveOf self ⌝ }
-    {
-        let at = self.find(Sought::AnyFree, b"");
-        if 32 <= at {
-            return Told {
-                answer: Answer::Refused(Refusal::NoFreeSlot),
-                endpoint: self,
-            };
-        }
-        let n = Name::empty();
-        let s = Slot {
-            stage: Stage::AwaitsName,
-            name: n,
-            flags: 0,
-            creation: 0,
-            challenge: 0,
-        };
-        let e = self.with(at, s);
-        Told {
-            answer: Answer::Arrived { slot: at },
-            endpoint: e,
-        }
-    }
-
-    // Frees any taken slot.
-    pub fn close(self, at: usize) -> Told
-        ensures { λ r. ⌜ r ≡ closeOf self at ⌝ }
-    {
-        if 32 <= at {
-            return Told {
-                answer: Answer::Refused(Refusal::SlotNotTaken),
-                endpoint: self,
-            };
-        }
-        let s = self.slot(at);
-        let stage = s.stage;
-        if kind_of(stage) == 0 {
-            return Told {
-                answer: Answer::Refused(Refusal::SlotNotTaken),
-                endpoint: self,
-            };
-        }
-        let e = self.without(at);
-        Told {
-            answer: Answer::Closed,
             endpoint: e,
         }
     }

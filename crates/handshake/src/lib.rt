@@ -1,5 +1,10 @@
 // The handshake endpoint (01's gate): handshakes of version 6, as initiator and as acceptor.
+//
+// Every call takes the endpoint and hands it back with an answer; none has a premise. Each contract is
+// an equation with the call's definition in specs/Calls, over which demand 3 and the other claims of
+// specs/Claims are proved. The names of the steps are those of OTP's dist_util.
 mod accepting;
+mod arrive;
 mod connecting;
 mod cookie;
 mod endpoint;
