@@ -20,7 +20,7 @@ use Rattle.handshake.specs.declared.endpoint.Endpoint.{Endpoint}
 use Rattle.handshake.specs.declared.endpoint.Freed.{Freed}
 use Rattle.handshake.specs.declared.endpoint.Freed.the-variants.{Nothing, At}
 use Rattle.handshake.specs.Refusals.{messageFate}
-use Rattle.handshake.specs.Endpoint.{freeSlot, kind, linked, isA, slotAt, put, freeOther}
+use Rattle.handshake.specs.Endpoint.{freeSlot, kind, connected, isA, slotAt, put, freeOther}
 use Rattle.handshake.specs.Cookie.{Cookies, checking, writing, fit, digestOf}
 use Rattle.handshake.specs.Plans.{stop, go, Plan, sure, proven, judged, settled, spared, finished, concluded}
 use Rattle.handshake.specs.Calls.{opened, startTests, arriveTests, closeTests, begun, arrived, silent, kept, startOf, arriveOf, closeOf, plan, messageOf}
@@ -41,11 +41,11 @@ module _ (i : ℕ) where
       ⊎-map (λ p. ap (λ (y : Slot). y .stage) (sym p) ∙ e) (λ p. (p .0, ap (λ (y : Slot). y .stage) (sym (p .1)) ∙ e)) (set-at (g .slots) s x i)
 
   -- and only if it was, where nothing connected is put there
-  kept-up : (g : Endpoint) (s : ℕ) (x : Slot) → isA linked x ≡ false → Up (put g s x) → Up g
-  kept-up g s x n e = ⊎-elim (λ p. p) (λ p. absurd (true≢false (linked-true (p .1) n))) (put-up g s x e)
+  kept-up : (g : Endpoint) (s : ℕ) (x : Slot) → isA connected x ≡ false → Up (put g s x) → Up g
+  kept-up g s x n e = ⊎-elim (λ p. p) (λ p. absurd (true≢false (connected-true (p .1) n))) (put-up g s x e)
     where
-      linked-true : x .stage ≡ Connected → isA linked x ≡ false → true ≡ false
-      linked-true p n = sym (ap (λ (st : Stage). eqb (kind st) 3) p) ∙ n
+      connected-true : x .stage ≡ Connected → isA connected x ≡ false → true ≡ false
+      connected-true p n = sym (ap (λ (st : Stage). eqb (kind st) 3) p) ∙ n
 
   other-up : (g : Endpoint) (o : Freed) → Up (freeOther g o) → Up g
   other-up g Nothing e = e

@@ -18,7 +18,7 @@ use Rattle.handshake.specs.declared.endpoint.Stage.{Stage}
 use Rattle.handshake.specs.declared.endpoint.Stage.the-variants.{Free, AwaitsName, AwaitsAlive, AwaitsReply, AwaitsStatus, AwaitsChallenge, AwaitsAck, Connected}
 use Rattle.handshake.specs.declared.endpoint.Slot.{Slot}
 use Rattle.handshake.specs.declared.endpoint.Endpoint.{Endpoint}
-use Rattle.handshake.specs.declared.endpoint.Sought.the-variants.{AnyFree, Started, Linked}
+use Rattle.handshake.specs.declared.endpoint.Sought.the-variants.{AnyFree, StartedTo, ConnectedTo}
 use Rattle.handshake.specs.declared.endpoint.Freed.{Freed}
 use Rattle.handshake.specs.declared.endpoint.Freed.the-variants.{Nothing, At}
 use Rattle.handshake.specs.declared.accepting.Greeting.{Greeting}
@@ -59,20 +59,20 @@ module _ (g : Endpoint) (many : length (g .slots) ≡ 32) (sl : Slot) where
       λ o q.
       let at : mine ≡ o = cc in
       let h = attempt-at g n mine e in
-      let t : isSlot (lowest Started n g) ≡ true = ap isSlot (h .1) ∙ lt-ltb mine 32 (h .0) in
-      let k = eqb-true (kindOf (slotAt g (lowest Started n g))) 2 (and-left _ _ (found g many Started n t)) in
+      let t : isSlot (lowest StartedTo n g) ≡ true = ap isSlot (h .1) ∙ lt-ltb mine 32 (h .0) in
+      let k = eqb-true (kindOf (slotAt g (lowest StartedTo n g))) 2 (and-left _ _ (found g many StartedTo n t)) in
       ap (λ (i : ℕ). kindOf (slotAt g i)) (sym (h .1 ∙ at)) ∙ k
   frees-greet n f k c Alive e = λ o e. absurd (none-freed o e)
   frees-greet n f k c Ok e = λ o e. absurd (none-freed o e)
 
   frees-older : (o : ℕ) → older g sl ≡ At o → peer (slotAt g o) ≡ peer sl
-  frees-older o = by (isSlot (lowest Linked (peer sl) g)) refl
+  frees-older o = by (isSlot (lowest ConnectedTo (peer sl) g)) refl
     where
-      by : (b : Bool) → isSlot (lowest Linked (peer sl) g) ≡ b → freedAt (lowest Linked (peer sl) g) b ≡ At o → peer (slotAt g o) ≡ peer sl
+      by : (b : Bool) → isSlot (lowest ConnectedTo (peer sl) g) ≡ b → freedAt (lowest ConnectedTo (peer sl) g) b ≡ At o → peer (slotAt g o) ≡ peer sl
       by true t e =
-          let at : lowest Linked (peer sl) g ≡ o = cc in
+          let at : lowest ConnectedTo (peer sl) g ≡ o = cc in
           ap (λ (i : ℕ). peer (slotAt g i)) (sym at)
-          ∙ same-decides (peer (slotAt g (lowest Linked (peer sl) g))) (peer sl) .0 (both-true (eqb (kindOf (slotAt g (lowest Linked (peer sl) g))) 3) (sameBytes (peer (slotAt g (lowest Linked (peer sl) g))) (peer sl)) (found g many Linked (peer sl) t) .1)
+          ∙ same-decides (peer (slotAt g (lowest ConnectedTo (peer sl) g))) (peer sl) .0 (both-true (eqb (kindOf (slotAt g (lowest ConnectedTo (peer sl) g))) 3) (sameBytes (peer (slotAt g (lowest ConnectedTo (peer sl) g))) (peer sl)) (found g many ConnectedTo (peer sl) t) .1)
       by false t e = let z : _≡_ {A = ℕ} 0 1 = cc in absurd (omega arith)
 
   frees-status : (x : Reaction) → Frees g sl (onStatus sl x)

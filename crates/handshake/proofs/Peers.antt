@@ -19,7 +19,7 @@ use Rattle.handshake.specs.declared.endpoint.Stage.{Stage}
 use Rattle.handshake.specs.declared.endpoint.Stage.the-variants.{Free, AwaitsName, AwaitsAlive, AwaitsReply, AwaitsStatus, AwaitsChallenge, AwaitsAck, Connected}
 use Rattle.handshake.specs.declared.endpoint.Slot.{Slot}
 use Rattle.handshake.specs.declared.endpoint.Endpoint.{Endpoint}
-use Rattle.handshake.specs.declared.endpoint.Sought.the-variants.{AnyTaken, Accepted, Started, Linked}
+use Rattle.handshake.specs.declared.endpoint.Sought.the-variants.{AnyTaken, AcceptedFrom, StartedTo, ConnectedTo}
 use Rattle.handshake.specs.declared.endpoint.Freed.{Freed}
 use Rattle.handshake.specs.declared.endpoint.Freed.the-variants.{Nothing, At}
 use Rattle.handshake.specs.declared.accepting.Greeting.the-variants.{NotAllowed, Nok, Alive, Ok}
@@ -154,27 +154,27 @@ module _ (g : Endpoint) (a : Apart g) (s : ℕ) where
   stays x k p z = (λ e. absurd (z e), λ j n. fine-like (slotAt g s) x (slotAt g j) p (sym k) (a .fine s j n))
 
   -- a name is read on a slot, x is what it becomes: nobody else that is accepted or started has it
-  welcomed : (x : Slot) (n : List ℕ) → peer x ≡ n → kindOf x ≡ 1 → isSlot (lowest Accepted n g) ≡ false → isSlot (lowest Started n g) ≡ false
+  welcomed : (x : Slot) (n : List ℕ) → peer x ≡ n → kindOf x ≡ 1 → isSlot (lowest AcceptedFrom n g) ≡ false → isSlot (lowest StartedTo n g) ≡ false
       → (j : ℕ) → Fine x (slotAt g j)
   unfolding Fine
   welcomed x n p k acc str j e =
       ⊎-elim
       (⊎-elim (λ q. inl (e ∙ a .tidy j q))
-      (λ q. absurd (unseen 1 n (slotAt g j) (none-found g (a .many) Accepted n refl acc j) q (sym e ∙ p))))
-      (⊎-elim (λ q. absurd (unseen 2 n (slotAt g j) (none-found g (a .many) Started n refl str j) q (sym e ∙ p))) (λ q. inr (inr (k, q))))
+      (λ q. absurd (unseen 1 n (slotAt g j) (none-found g (a .many) AcceptedFrom n refl acc j) q (sym e ∙ p))))
+      (⊎-elim (λ q. absurd (unseen 2 n (slotAt g j) (none-found g (a .many) StartedTo n refl str j) q (sym e ∙ p))) (λ q. inr (inr (k, q))))
       (kinds (slotAt g j .stage))
 
   -- our attempt to the same peer is freed
-  instead : (x : Slot) (n : List ℕ) → peer x ≡ n → isSlot (lowest Started n g) ≡ true → (j : ℕ) → Fine x (slotAt (freed g (lowest Started n g)) j)
+  instead : (x : Slot) (n : List ℕ) → peer x ≡ n → isSlot (lowest StartedTo n g) ≡ true → (j : ℕ) → Fine x (slotAt (freed g (lowest StartedTo n g)) j)
   instead x n p e j =
-      let mine = lowest Started n g in
-      let q = seen 2 n (slotAt g mine) (found g (a .many) Started n e) in
+      let mine = lowest StartedTo n g in
+      let q = seen 2 n (slotAt g mine) (found g (a .many) StartedTo n e) in
       freed-fine g mine (omega (arith, a .many, ltb-true mine 32 e)) x j (λ m. alone (slotAt g mine) x (slotAt g j) (q .0) (p ∙ sym (q .1)) (a .fine mine j m))
 
   -- by the tests of the greeting
   module _ (n : List ℕ) (f k c : ℕ) (short : length n ≤ 255) where
-    by-greeting : (x y z w v : Bool) → isSlot (lowest Accepted n g) ≡ y → isSlot (lowest Started n g) ≡ z
-        → GoodPlan (greet g n f k c (cond x NotAllowed (cond y Nok (cond z (contest v (lowest Started n g)) (cond w Alive Ok)))))
+    by-greeting : (x y z w v : Bool) → isSlot (lowest AcceptedFrom n g) ≡ y → isSlot (lowest StartedTo n g) ≡ z
+        → GoodPlan (greet g n f k c (cond x NotAllowed (cond y Nok (cond z (contest v (lowest StartedTo n g)) (cond w Alive Ok)))))
     by-greeting true y z w v p q = away
     by-greeting false true z w v p q = away
     by-greeting false false true w true p q = (λ e. absurd (omega arith), λ j m. instead (heard n f k AwaitsReply c) n (name-back n short) q j)
@@ -185,26 +185,26 @@ module _ (g : Endpoint) (a : Apart g) (s : ℕ) where
     good-name : GoodPlan (greet g n f k c (greeting g n))
     unfolding greeting
     good-name =
-        by-greeting (sameBytes (nameBytes (g .name)) n) (isSlot (lowest Accepted n g)) (isSlot (lowest Started n g)) (isSlot (lowest Linked n g))
+        by-greeting (sameBytes (nameBytes (g .name)) n) (isSlot (lowest AcceptedFrom n g)) (isSlot (lowest StartedTo n g)) (isSlot (lowest ConnectedTo n g))
         (isGreater (order n (nameBytes (g .name)))) refl refl
 
   -- the older connected slot is freed
   replaces : (x : Slot) → kindOf (slotAt g s) ≡ 1 → peer x ≡ peer (slotAt g s) → (j : ℕ) → (s ≡ j → ⊥) → Fine x (slotAt (freeOther g (older g (slotAt g s))) j)
   unfolding Fine
-  replaces x k p j n = by (isSlot (lowest Linked (peer (slotAt g s)) g)) refl
+  replaces x k p j n = by (isSlot (lowest ConnectedTo (peer (slotAt g s)) g)) refl
     where
       o : ℕ
-      o = lowest Linked (peer (slotAt g s)) g
+      o = lowest ConnectedTo (peer (slotAt g s)) g
 
       by : (b : Bool) → isSlot o ≡ b → Fine x (slotAt (freeOther g (freedAt o b)) j)
-      by false e = none-older (none-found g (a .many) Linked (peer (slotAt g s)) refl e j)
+      by false e = none-older (none-found g (a .many) ConnectedTo (peer (slotAt g s)) refl e j)
         where
           none-older : (eqb (kindOf (slotAt g j)) 3 && sameBytes (peer (slotAt g j)) (peer (slotAt g s))) ≡ false → Fine x (slotAt g j)
           none-older u h =
               ⊎-elim (λ q. inl (p ∙ q))
               (⊎-elim (λ q. absurd (omega (arith, k, q .0))) (λ q. absurd (unseen 3 (peer (slotAt g s)) (slotAt g j) u (q .1) (sym (sym p ∙ h)))))
               (a .fine s j n (sym p ∙ h))
-      by true e = freed-fine g o (omega (arith, a .many, ltb-true o 32 e)) x j (one-older (seen 3 (peer (slotAt g s)) (slotAt g o) (found g (a .many) Linked (peer (slotAt g s)) e)))
+      by true e = freed-fine g o (omega (arith, a .many, ltb-true o 32 e)) x j (one-older (seen 3 (peer (slotAt g s)) (slotAt g o) (found g (a .many) ConnectedTo (peer (slotAt g s)) e)))
         where
           one-older : (kindOf (slotAt g o) ≡ 3) × (peer (slotAt g o) ≡ peer (slotAt g s)) → (o ≡ j → ⊥) → Fine x (slotAt g j)
           one-older l m h =

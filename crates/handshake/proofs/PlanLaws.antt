@@ -16,7 +16,7 @@ use Rattle.handshake.specs.declared.endpoint.Endpoint.{Endpoint}
 use Rattle.handshake.specs.declared.accepting.Greeting.{Greeting}
 use Rattle.handshake.specs.declared.accepting.Greeting.the-variants.{NotAllowed, Nok, OkSimultaneous, Alive, Ok}
 use Rattle.handshake.specs.Refusals.{keep, free, messageFate, checked}
-use Rattle.handshake.specs.Endpoint.{slotAt, isA, linked, put, freed, freeOther}
+use Rattle.handshake.specs.Endpoint.{slotAt, isA, connected, put, freed, freeOther}
 use Rattle.handshake.specs.Messages.{statusMessage, nameFlags, nameCreation, nameName, statusWord, ok, okSimultaneous, nok, notAllowed, alive, trueWord, falseWord}
 use Rattle.handshake.specs.Cookie.{Cookies, checking, writing, fit, digestOf}
 use Rattle.handshake.specs.Plans.{Writes, plain, reply, ack, stop, go, Plan, sure, proven, fails, judged, settled, spared, finished, concluded, challengeOf}
@@ -43,7 +43,7 @@ Small (ack theirs) = Unit
 -- without a check nothing is connected; a check is of the slot's challenge and the message's digest
 abbrev pub Sane : Endpoint → Slot → List ℕ → Plan → Type 0
 Sane g sl b (sure (stop r)) = Unit
-Sane g sl b (sure (go a)) = (isA linked (a .slot) ≡ false) × (length (nameBytes (g .name)) ≤ 255 → Small (a .writes))
+Sane g sl b (sure (go a)) = (isA connected (a .slot) ≡ false) × (length (nameBytes (g .name)) ≤ 255 → Small (a .writes))
 Sane g sl b (proven c d a) = (c ≡ sl .challenge) × Carries sl b d × (length (nameBytes (g .name)) ≤ 255 → Small (a .writes))
 
 -- a plan that is one of two

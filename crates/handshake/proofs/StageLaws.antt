@@ -24,7 +24,7 @@ use Rattle.handshake.specs.declared.endpoint.Stage.the-variants.{AwaitsR
 use Rattle.handshake.specs.declared.endpoint.Slot.{Slot}
 use Rattle.handshake.specs.declared.endpoint.Endpoint.{Endpoint}
 use Rattle.handshake.specs.declared.endpoint.Told.{Told}
-use Rattle.handshake.specs.declared.endpoint.Sought.the-variants.{Started, Accepted, Linked}
+use Rattle.handshake.specs.declared.endpoint.Sought.the-variants.{StartedTo, AcceptedFrom, ConnectedTo}
 use Rattle.handshake.specs.declared.accepting.Greeting.the-variants.{NotAllowed, Nok, OkSimultaneous, Alive, Ok}
 use Rattle.handshake.specs.Refusals.{checked, unless}
 use Rattle.handshake.specs.Endpoint.{slotAt, lowest, lowestFree, isSlot}
@@ -108,14 +108,14 @@ attempt-of false false true d false m j e = let z : _≡_ {A = ℕ} 0 1 = cc in 
 attempt-of false false false true x m j e = let z : _≡_ {A = ℕ} 0 1 = cc in absurd (omega arith)
 attempt-of false false false false x m j e = let z : _≡_ {A = ℕ} 0 1 = cc in absurd (omega arith)
 
-pub attempt-at : (g : Endpoint) (n : List ℕ) (j : ℕ) → greeting g n ≡ OkSimultaneous j → (j < 32) × (lowest Started n g ≡ j)
+pub attempt-at : (g : Endpoint) (n : List ℕ) (j : ℕ) → greeting g n ≡ OkSimultaneous j → (j < 32) × (lowest StartedTo n g ≡ j)
 unfolding greeting
 attempt-at g n j e =
     let own = nameBytes (g .name) in
     let h =
-    attempt-of (sameBytes own n) (isSlot (lowest Accepted n g)) (isSlot (lowest Started n g)) (isSlot (lowest Linked n g)) (isGreater (order n own))
-    (lowest Started n g) j e in
-    (omega (arith, h .1, ltb-true (lowest Started n g) 32 (h .0)), h .1)
+    attempt-of (sameBytes own n) (isSlot (lowest AcceptedFrom n g)) (isSlot (lowest StartedTo n g)) (isSlot (lowest ConnectedTo n g)) (isGreater (order n own))
+    (lowest StartedTo n g) j e in
+    (omega (arith, h .1, ltb-true (lowest StartedTo n g) 32 (h .0)), h .1)
 
 -- an acknowledgement is answered by nothing
 pub ack-silent : (i w : List ℕ) (g : Endpoint) (s : ℕ) (sl : Slot) (b : List ℕ) → concluded i w g s (stagePlan (expectAck sl b)) .bytes ≡ []

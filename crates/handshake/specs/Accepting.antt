@@ -11,7 +11,7 @@ use Rattle.handshake.specs.declared.endpoint.Stage.{Stage}
 use Rattle.handshake.specs.declared.endpoint.Stage.the-variants.{AwaitsAlive, AwaitsReply, Connected}
 use Rattle.handshake.specs.declared.endpoint.Slot.{Slot}
 use Rattle.handshake.specs.declared.endpoint.Endpoint.{Endpoint}
-use Rattle.handshake.specs.declared.endpoint.Sought.the-variants.{Accepted, Started, Linked}
+use Rattle.handshake.specs.declared.endpoint.Sought.the-variants.{AcceptedFrom, StartedTo, ConnectedTo}
 use Rattle.handshake.specs.declared.endpoint.Freed.{Freed}
 use Rattle.handshake.specs.declared.endpoint.Freed.the-variants.{Nothing, At}
 use Rattle.handshake.specs.declared.accepting.Greeting.{Greeting}
@@ -37,9 +37,9 @@ contest false mine = Nok
 unfoldable pub greeting : Endpoint → List ℕ → Greeting
 greeting g n =
     cond (sameBytes (nameBytes (g .name)) n) NotAllowed
-    (cond (isSlot (lowest Accepted n g)) Nok
-    (cond (isSlot (lowest Started n g)) (contest (isGreater (order n (nameBytes (g .name)))) (lowest Started n g))
-    (cond (isSlot (lowest Linked n g)) Alive Ok)))
+    (cond (isSlot (lowest AcceptedFrom n g)) Nok
+    (cond (isSlot (lowest StartedTo n g)) (contest (isGreater (order n (nameBytes (g .name)))) (lowest StartedTo n g))
+    (cond (isSlot (lowest ConnectedTo n g)) Alive Ok)))
 
 -- the slot with what the name message brings: "name, flags and creation are recorded when read, and the challenge when sent"
 abbrev pub heard : List ℕ → ℕ → ℕ → Stage → ℕ → Slot
@@ -83,7 +83,7 @@ expectAlive g sl c b = record { form = statusForm b; rule = onAlive g sl c (stat
 -- "Right digest for the slot's challenge: acknowledgement for the peer's challenge is written, the slot is connected, and an older connected slot of
 -- this peer is freed. Wrong: 15."
 abbrev pub older : Endpoint → Slot → Freed
-older g sl = freedAt (lowest Linked (nameBytes (sl .name)) g) (isSlot (lowest Linked (nameBytes (sl .name)) g))
+older g sl = freedAt (lowest ConnectedTo (nameBytes (sl .name)) g) (isSlot (lowest ConnectedTo (nameBytes (sl .name)) g))
 
 abbrev pub expectReply : Endpoint → Slot → List ℕ → Expected
 expectReply g sl b =

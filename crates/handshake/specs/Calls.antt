@@ -22,7 +22,7 @@ use Rattle.handshake.specs.declared.endpoint.Answer.the-variants.{Refuse
 use Rattle.handshake.specs.declared.endpoint.Told.{Told}
 use Rattle.handshake.specs.Refusals.{Test, _given-if_, checked, unless}
 use Rattle.handshake.specs.Flags.{goodFlags}
-use Rattle.handshake.specs.Endpoint.{fresh, idle, linked, kind, slotAt, put, freed, vacant, lowest, lowestFree, isSlot}
+use Rattle.handshake.specs.Endpoint.{fresh, idle, connected, kind, slotAt, put, freed, vacant, lowest, lowestFree, isSlot}
 use Rattle.handshake.specs.Messages.{nameMessage}
 use Rattle.handshake.specs.Forms.{formTests}
 use Rattle.handshake.specs.Cookie.{Cookies, checking, writing, fit}
@@ -127,7 +127,7 @@ awaited g s f c = expected g (slotAt g s) c (body f) (slotAt g s .stage)
 abbrev pub earlyTests : ℕ → Stage → ℕ → Bool → List Test
 earlyTests s st size ok =
     OutputTooShort given-if ltb size room ∷ SlotNotTaken given-if (leb 32 s || eqb (kind st) idle)
-    ∷ AlreadyConnected given-if eqb (kind st) linked ∷ BadCookie given-if not ok ∷ []
+    ∷ AlreadyConnected given-if eqb (kind st) connected ∷ BadCookie given-if not ok ∷ []
 
 abbrev pub frameTests : List ℕ → List Test
 frameTests f = NotAFrame given-if not (isFrame f) ∷ []

@@ -13,7 +13,7 @@ use Rattle.handshake.specs.declared.endpoint.Stage.the-variants.{Free, A
 use Rattle.handshake.specs.declared.endpoint.Slot.{Slot}
 use Rattle.handshake.specs.declared.endpoint.Endpoint.{Endpoint}
 use Rattle.handshake.specs.declared.endpoint.Sought.{Sought}
-use Rattle.handshake.specs.declared.endpoint.Sought.the-variants.{AnyFree, Accepted, Started, Linked, AnyTaken}
+use Rattle.handshake.specs.declared.endpoint.Sought.the-variants.{AnyFree, AcceptedFrom, StartedTo, ConnectedTo, AnyTaken}
 use Rattle.handshake.specs.declared.endpoint.Freed.{Freed}
 use Rattle.handshake.specs.declared.endpoint.Freed.the-variants.{Nothing, At}
 
@@ -39,8 +39,8 @@ accepted = 1
 abbrev pub started : ℕ
 started = 2
 
-abbrev pub linked : ℕ
-linked = 3
+abbrev pub connected : ℕ
+connected = 3
 
 abbrev pub kind : Stage → ℕ
 kind Free = 0
@@ -79,17 +79,17 @@ vacant g s = leb 32 s || eqb (kind (slotAt g s .stage)) idle
 
 abbrev pub ofKind : Sought → ℕ → Bool
 ofKind AnyFree k = eqb k idle
-ofKind Accepted k = eqb k accepted
-ofKind Started k = eqb k started
-ofKind Linked k = eqb k linked
+ofKind AcceptedFrom k = eqb k accepted
+ofKind StartedTo k = eqb k started
+ofKind ConnectedTo k = eqb k connected
 ofKind AnyTaken k = not (eqb k idle)
 
 -- a free slot has no peer; any other is sought by its peer's name
 abbrev pub named : Sought → List ℕ → Slot → Bool
 named AnyFree n sl = true
-named Accepted n sl = sameBytes (nameBytes (sl .name)) n
-named Started n sl = sameBytes (nameBytes (sl .name)) n
-named Linked n sl = sameBytes (nameBytes (sl .name)) n
+named AcceptedFrom n sl = sameBytes (nameBytes (sl .name)) n
+named StartedTo n sl = sameBytes (nameBytes (sl .name)) n
+named ConnectedTo n sl = sameBytes (nameBytes (sl .name)) n
 named AnyTaken n sl = sameBytes (nameBytes (sl .name)) n
 
 abbrev pub sought : Sought → List ℕ → Slot → Bool

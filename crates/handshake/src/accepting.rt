@@ -76,14 +76,14 @@ impl Endpoint {
         if own.is(name) {
             return Greeting::NotAllowed;
         }
-        if self.find(Sought::Accepted, name) < 32 {
+        if self.find(Sought::AcceptedFrom, name) < 32 {
             return Greeting::Nok;
         }
-        let mine = self.find(Sought::Started, name);
+        let mine = self.find(Sought::StartedTo, name);
         if mine < 32 {
             return contest(own, name, mine);
         }
-        if self.find(Sought::Linked, name) < 32 {
+        if self.find(Sought::ConnectedTo, name) < 32 {
             return Greeting::Alive;
         }
         Greeting::Ok
@@ -226,7 +226,7 @@ impl Endpoint {
         ensures { λ r. ⌜ r ≡ plans.answers (freeOther self (spec.older self s)) at (plans.moved s Connected) (spec.older self s) count ⌝ }
     {
         let n = s.name;
-        let old = self.find_held(Sought::Linked, n);
+        let old = self.find_held(Sought::ConnectedTo, n);
         let t = sent(s, Stage::Connected, s.challenge);
         if old < 32 {
             let e = self.without(old);

@@ -12,6 +12,9 @@ ghost use Rattle.handshake.specs.Endpoint as state;
 ghost use Rattle.handshake.specs.Plans as plans;
 ghost use Rattle.handshake.specs.Calls.{notMade, newOf};
 
+// Start and message need so many output bytes; they write at most 294.
+pub(crate) const ROOM: usize = 300;
+
 // Free is the first: what is read past the end of an array is free.
 pub enum Stage {
     Free,
@@ -83,12 +86,13 @@ pub struct Told {
     pub endpoint: Endpoint,
 }
 
-// Which slots are sought.
+// Which slots are sought: any that is free, or, by the peer's name, an accepted one in progress, a
+// started one in progress, a connected one, any that is taken.
 pub(crate) enum Sought {
     AnyFree,
-    Accepted,
-    Started,
-    Linked,
+    AcceptedFrom,
+    StartedTo,
+    ConnectedTo,
     AnyTaken,
 }
 
@@ -176,9 +180,9 @@ impl Slot {
         let k = kind_of(stage);
         match what {
             Sought::AnyFree => k == 0,
-            Sought::Accepted => self.is_peer(k == 1, name),
-            Sought::Started => self.is_peer(k == 2, name),
-            Sought::Linked => self.is_peer(k == 3, name),
+            Sought::AcceptedFrom => self.is_peer(k == 1, name),
+            Sought::StartedTo => self.is_peer(k == 2, name),
+            Sought::ConnectedTo => self.is_peer(k == 3, name),
             Sought::AnyTaken => self.is_peer(k != 0, name),
         }
     }

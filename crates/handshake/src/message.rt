@@ -3,6 +3,7 @@
 use crate::cookie::choose;
 use crate::cookie::is_fit;
 use crate::endpoint::Endpoint;
+use crate::endpoint::ROOM;
 use crate::endpoint::Stage;
 use crate::endpoint::Told;
 use crate::endpoint::kind_of;
@@ -23,7 +24,7 @@ ghost use Rattle.handshake.specs.Calls as calls;
 fn check_early(at: usize, stage: Stage, cookie: &[u8], size: usize) -> Check
     ensures { λ r. ⌜ r ≡ checked (calls.earlyTests at stage size (fit stage (now (cookie .entry)) (now (cookie .entry)))) ⌝ }
 {
-    if size < 300 {
+    if size < ROOM {
         return Check::Refuse(Refusal::OutputTooShort);
     }
     if 32 <= at {

@@ -1,6 +1,7 @@
 // Start towards a full name (01, The gate).
 use crate::endpoint::Answer;
 use crate::endpoint::Endpoint;
+use crate::endpoint::ROOM;
 use crate::endpoint::Slot;
 use crate::endpoint::Sought;
 use crate::endpoint::Stage;
@@ -21,7 +22,7 @@ impl Endpoint {
     fn check_start(self, name: &[u8], size: usize) -> Check
         ensures { λ r. ⌜ r ≡ checked (calls.startTests self (now (name .entry)) size) ⌝ }
     {
-        if size < 300 {
+        if size < ROOM {
             return Check::Refuse(Refusal::OutputTooShort);
         }
         if !names::is_full_name(name) {
