@@ -30,7 +30,7 @@ use Rattle.handshake.specs.Endpoint.{freeSlot, kind, slotAt, put, freed,
 use Rattle.handshake.specs.Messages.{nameFlags, nameCreation, nameName, statusWord, trueWord, falseWord}
 use Rattle.handshake.specs.Cookie.{Cookies, checking, writing, fit, digestOf}
 use Rattle.handshake.specs.Plans.{Done, stop, go, Plan, sure, proven, fails, judged, settled, spared, finished, concluded}
-use Rattle.handshake.specs.Accepting.{greeting, greet, older}
+use Rattle.handshake.specs.Accepting.{greeting, onName, older}
 use Rattle.handshake.specs.Connecting.{reaction, onStatus}
 use Rattle.handshake.specs.Calls.{opened, startTests, arriveTests, closeTests, begun, arrived, silent, kept, startOf, arriveOf, closeOf, expected, awaited, earlyTests, messageTests, plan, messageOf}
 use Rattle.handshake.specs.Runs.{Call, Start, Arrive, Close, Message, step, next, ends}
@@ -52,18 +52,18 @@ none-freed : (o : ℕ) → Nothing ≡ At o → ⊥
 none-freed o e = let z : _≡_ {A = ℕ} 0 1 = cc in omega arith
 
 module _ (g : Endpoint) (many : length (g .slots) ≡ 32) (sl : Slot) where
-  frees-greet : (n : List ℕ) (f k c : ℕ) (x : Greeting) → greeting g n ≡ x → Frees g sl (greet g n f k c x)
-  frees-greet n f k c NotAllowed e = λ o e. absurd (none-freed o e)
-  frees-greet n f k c Nok e = λ o e. absurd (none-freed o e)
-  frees-greet n f k c (OkSimultaneous mine) e =
+  frees-on-name : (n : List ℕ) (f k c : ℕ) (x : Greeting) → greeting g n ≡ x → Frees g sl (onName g n f k c x)
+  frees-on-name n f k c NotAllowed e = λ o e. absurd (none-freed o e)
+  frees-on-name n f k c Nok e = λ o e. absurd (none-freed o e)
+  frees-on-name n f k c (OkSimultaneous mine) e =
       λ o q.
       let at : mine ≡ o = cc in
       let h = attempt-at g n mine e in
       let t : isSlot (lowest StartedTo n g) ≡ true = ap isSlot (h .1) ∙ lt-ltb mine 32 (h .0) in
       let k = eqb-true (kindOf (slotAt g (lowest StartedTo n g))) 2 (and-left _ _ (found g many StartedTo n t)) in
       ap (λ (i : ℕ). kindOf (slotAt g i)) (sym (h .1 ∙ at)) ∙ k
-  frees-greet n f k c Alive e = λ o e. absurd (none-freed o e)
-  frees-greet n f k c Ok e = λ o e. absurd (none-freed o e)
+  frees-on-name n f k c Alive e = λ o e. absurd (none-freed o e)
+  frees-on-name n f k c Ok e = λ o e. absurd (none-freed o e)
 
   frees-older : (o : ℕ) → older g sl ≡ At o → peer (slotAt g o) ≡ peer sl
   frees-older o = by (isSlot (lowest ConnectedTo (peer sl) g)) refl
@@ -84,7 +84,7 @@ module _ (g : Endpoint) (many : length (g .slots) ≡ 32) (sl : Slot) where
   frees-rule : (c : ℕ) (b : List ℕ) (st : Stage) → Frees g sl (expected g sl c b st .rule)
   unfolding expected
   frees-rule c b Free = tt
-  frees-rule c b AwaitsName = frees-greet (nameName b) (nameFlags b) (nameCreation b) c (greeting g (nameName b)) refl
+  frees-rule c b AwaitsName = frees-on-name (nameName b) (nameFlags b) (nameCreation b) c (greeting g (nameName b)) refl
   frees-rule c b AwaitsAlive =
       either (Frees g sl) (sameBytes (statusWord b) trueWord) _ _ (λ o e. absurd (none-freed o e))
       (either (Frees g sl) (sameBytes (statusWord b) falseWord) _ _ (λ o e. absurd (none-freed o e)) tt)

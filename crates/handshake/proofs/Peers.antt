@@ -30,7 +30,7 @@ use Rattle.handshake.specs.Messages.{nameFlags, nameCreation, nameName, 
 use Rattle.handshake.specs.Forms.{formTests}
 use Rattle.handshake.specs.Cookie.{Cookies}
 use Rattle.handshake.specs.Plans.{Act, stop, go, Plan, sure, proven, sent, moved}
-use Rattle.handshake.specs.Accepting.{isGreater, contest, greeting, heard, greet, older}
+use Rattle.handshake.specs.Accepting.{isGreater, contest, greeting, heard, onName, older}
 use Rattle.handshake.specs.Connecting.{reaction, onStatus, challenged}
 use Rattle.handshake.specs.Calls.{opened, expected, awaited}
 use Rattle.handshake.specs.Runs.{Call, next, Asked, ends}
@@ -174,7 +174,7 @@ module _ (g : Endpoint) (a : Apart g) (s : ℕ) where
   -- by the tests of the greeting
   module _ (n : List ℕ) (f k c : ℕ) (short : length n ≤ 255) where
     by-greeting : (x y z w v : Bool) → isSlot (lowest AcceptedFrom n g) ≡ y → isSlot (lowest StartedTo n g) ≡ z
-        → GoodPlan (greet g n f k c (cond x NotAllowed (cond y Nok (cond z (contest v (lowest StartedTo n g)) (cond w Alive Ok)))))
+        → GoodPlan (onName g n f k c (cond x NotAllowed (cond y Nok (cond z (contest v (lowest StartedTo n g)) (cond w Alive Ok)))))
     by-greeting true y z w v p q = away
     by-greeting false true z w v p q = away
     by-greeting false false true w true p q = (λ e. absurd (omega arith), λ j m. instead (heard n f k AwaitsReply c) n (name-back n short) q j)
@@ -182,7 +182,7 @@ module _ (g : Endpoint) (a : Apart g) (s : ℕ) where
     by-greeting false false false true v p q = (λ e. absurd (omega arith), λ j m. welcomed (heard n f k AwaitsAlive 0) n (name-back n short) refl p q j)
     by-greeting false false false false v p q = (λ e. absurd (omega arith), λ j m. welcomed (heard n f k AwaitsReply c) n (name-back n short) refl p q j)
 
-    good-name : GoodPlan (greet g n f k c (greeting g n))
+    good-name : GoodPlan (onName g n f k c (greeting g n))
     unfolding greeting
     good-name =
         by-greeting (sameBytes (nameBytes (g .name)) n) (isSlot (lowest AcceptedFrom n g)) (isSlot (lowest StartedTo n g)) (isSlot (lowest ConnectedTo n g))

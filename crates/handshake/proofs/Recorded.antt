@@ -19,7 +19,7 @@ use Rattle.handshake.specs.Endpoint.{freeSlot, slotAt, put, freeOther}
 use Rattle.handshake.specs.Messages.{nameFlags, nameCreation, nameName, statusWord, trueWord, falseWord}
 use Rattle.handshake.specs.Cookie.{Cookies}
 use Rattle.handshake.specs.Plans.{stop, go, Plan, sure, proven}
-use Rattle.handshake.specs.Accepting.{greeting, greet}
+use Rattle.handshake.specs.Accepting.{greeting, onName}
 use Rattle.handshake.specs.Connecting.{reaction, onStatus}
 use Rattle.handshake.specs.Calls.{opened, expected, awaited}
 use Rattle.handshake.specs.Runs.{Call, next, Asked, ends}
@@ -52,12 +52,12 @@ each-plan g s (sure (stop r)) h b = tt
 each-plan g s (sure (go a)) h b = each-put (freeOther g (a .other)) s (a .slot) (each-other g (a .other) h) b
 each-plan g s (proven c d a) h b = each-put (freeOther g (a .other)) s (a .slot) (each-other g (a .other) h) b
 
-acts-greet : (g : Endpoint) (n : List ℕ) (f k c : ℕ) (x : Greeting) → Acts (greet g n f k c x)
-acts-greet g n f k c NotAllowed = refl
-acts-greet g n f k c Nok = refl
-acts-greet g n f k c (OkSimultaneous mine) = tt
-acts-greet g n f k c Alive = refl
-acts-greet g n f k c Ok = tt
+acts-on-name : (g : Endpoint) (n : List ℕ) (f k c : ℕ) (x : Greeting) → Acts (onName g n f k c x)
+acts-on-name g n f k c NotAllowed = refl
+acts-on-name g n f k c Nok = refl
+acts-on-name g n f k c (OkSimultaneous mine) = tt
+acts-on-name g n f k c Alive = refl
+acts-on-name g n f k c Ok = tt
 
 acts-status : (sl : Slot) (x : Reaction) → sl .stage ≡ AwaitsStatus → Bare sl → Acts (onStatus sl x)
 acts-status sl Proceed e b = subst (λ (st : Stage). Unrecorded st sl) e b
@@ -68,7 +68,7 @@ acts-status sl Unknown e b = tt
 acts-rule : (g : Endpoint) (sl : Slot) (c : ℕ) (b : List ℕ) (st : Stage) → sl .stage ≡ st → Bare sl → Acts (expected g sl c b st .rule)
 unfolding expected
 acts-rule g sl c b Free e h = tt
-acts-rule g sl c b AwaitsName e h = acts-greet g (nameName b) (nameFlags b) (nameCreation b) c (greeting g (nameName b))
+acts-rule g sl c b AwaitsName e h = acts-on-name g (nameName b) (nameFlags b) (nameCreation b) c (greeting g (nameName b))
 acts-rule g sl c b AwaitsAlive e h =
     either Acts (sameBytes (statusWord b) trueWord) _ _ tt (either Acts (sameBytes (statusWord b) falseWord) _ _ refl tt)
 acts-rule g sl c b AwaitsReply e h = tt

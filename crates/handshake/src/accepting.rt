@@ -14,9 +14,9 @@ use crate::recv::check_name;
 use crate::recv::check_status;
 use crate::refusal::Check;
 use crate::refusal::Refusal;
-use crate::send::put_ack;
-use crate::send::put_challenge;
-use crate::send::put_status;
+use crate::send::send_challenge;
+use crate::send::send_challenge_ack;
+use crate::send::send_status;
 use names::Name;
 ghost use mathlib.Core.Path.{_≡_};
 ghost use Prim.Native.Nat.{ℕ, _+_, _≤_, _<_};
@@ -95,7 +95,7 @@ impl Endpoint {
         ensures { λ r. ⌜ r ≡ plans.answered self at slot Nothing (statusMessage (now (word .entry))) .told ⌝ }
         ensures { λ _. ⌜ now (out .exit) ≡ written (statusMessage (now (word .entry))) (now (out .entry)) ⌝ }
     {
-        let count = put_status(out, word);
+        let count = send_status(out, word);
         self.answer(at, slot, Freed::Nothing, count)
     }
 
@@ -113,14 +113,14 @@ impl Endpoint {
         ensures { λ r. ⌜ r ≡ plans.answers self at slot freed (length (spec.welcomes self (now (word .entry)) challenge)) ⌝ }
         ensures { λ _. ⌜ now (out .exit) ≡ written (spec.welcomes self (now (word .entry)) challenge) (now (out .entry)) ⌝ }
     {
-        let n = put_status(out, word);
+        let n = send_status(out, word);
         let own = self.name;
-        let m = put_challenge(out, n, own, self.flags, challenge, self.creation);
+        let m = send_challenge(out, n, own, self.flags, challenge, self.creation);
         self.answer(at, slot, freed, n + m)
     }
 
     // By the greeting.
-    fn greet(
+    fn on_name(
         self,
         at: usize,
         name: &[u8],
@@ -130,8 +130,8 @@ impl Endpoint {
         out: &mut [u8],
     ) -> Told
         requires { ⌜ (at < 32) × (length (now name) ≤ 255) × (300 ≤ length (now out)) ⌝ }
-        ensures { λ r. ⌜ ((k : List ℕ) → r ≡ plans.concluded k k self at (spec.greet self (now (name .entry)) flags creation challenge (spec.greeting self (now (name .entry)))) .told) ⌝ }
-        ensures { λ _. ⌜ ((k : List ℕ) → now (out .exit) ≡ written (plans.concluded k k self at (spec.greet self (now (name .entry)) flags creation challenge (spec.greeting self (now (name .entry)))) .bytes) (now (out .entry))) ⌝ }
+        ensures { λ r. ⌜ ((k : List ℕ) → r ≡ plans.concluded k k self at (spec.onName self (now (name .entry)) flags creation challenge (spec.greeting self (now (name .entry)))) .told) ⌝ }
+        ensures { λ _. ⌜ ((k : List ℕ) → now (out .exit) ≡ written (plans.concluded k k self at (spec.onName self (now (name .entry)) flags creation challenge (spec.greeting self (now (name .entry)))) .bytes) (now (out .entry))) ⌝ }
     {
         match self.greeting(name) {
             Greeting::NotAllowed => self.say(at, free_slot(), b"not_allowed", out),
@@ -165,19 +165,19 @@ impl Endpoint {
                 let flags = wire::get64(body, 1);
                 let creation = wire::get32(body, 9);
                 let name = wire::get_part(body, 15, len);
-                self.greet(at, name, flags, creation, challenge, out)
+                self.on_name(at, name, flags, creation, challenge, out)
             }
         }
     }
 
     // Our challenge alone.
-    fn send_challenge(self, at: usize, challenge: u32, out: &mut [u8]) -> Told
+    fn challenge_peer(self, at: usize, challenge: u32, out: &mut [u8]) -> Told
         requires { ⌜ (at < 32) × (300 ≤ length (now out)) ⌝ }
         ensures { λ r. ⌜ r ≡ plans.answered self at (plans.sent (slotAt self at) AwaitsReply challenge) Nothing (plans.challengeOf self challenge) .told ⌝ }
         ensures { λ _. ⌜ now (out .exit) ≡ written (plans.challengeOf self challenge) (now (out .entry)) ⌝ }
     {
         let own = self.name;
-        let count = put_challenge(out, 0, own, self.flags, challenge, self.creation);
+        let count = send_challenge(out, 0, own, self.flags, challenge, self.creation);
         let s = self.slot(at);
         let t = sent(s, Stage::AwaitsReply, challenge);
         self.answer(at, t, Freed::Nothing, count)
@@ -190,7 +190,7 @@ impl Endpoint {
         ensures { λ _. ⌜ ((k : List ℕ) → now (out .exit) ≡ written (plans.concluded k k self at (spec.onAlive self (slotAt self at) challenge (now (word .entry))) .bytes) (now (out .entry))) ⌝ }
     {
         if wire::same_bytes(word, b"true") {
-            return self.send_challenge(at, challenge, out);
+            return self.challenge_peer(at, challenge, out);
         }
         if wire::same_bytes(word, b"false") {
             let s = free_slot();
@@ -236,7 +236,7 @@ impl Endpoint {
     }
 
     // A reply of the right length: its digest must be that of the slot's own challenge.
-    fn send_ack(self, at: usize, body: &[u8], cookie: &[u8], out: &mut [u8]) -> Told
+    fn on_challenge_reply(self, at: usize, body: &[u8], cookie: &[u8], out: &mut [u8]) -> Told
         requires { ⌜ (at < 32) × (length (now body) ≡ 21) × (length (now cookie) ≤ 255) × (300 ≤ length (now out)) ⌝ }
         ensures { λ r. ⌜ r ≡ plans.concluded (now (cookie .entry)) (now (cookie .entry)) self at (spec.expectReply self (slotAt self at) (now (body .entry)) .rule) .told ⌝ }
         ensures { λ _. ⌜ now (out .exit) ≡ written (plans.concluded (now (cookie .entry)) (now (cookie .entry)) self at (spec.expectReply self (slotAt self at) (now (body .entry)) .rule) .bytes) (now (out .entry)) ⌝ }
@@ -246,19 +246,25 @@ impl Endpoint {
             return self.refuse(at, Refusal::WrongDigest);
         }
         let d = digest(wire::get32(body, 1), cookie);
-        let count = put_ack(out, &d);
+        let count = send_challenge_ack(out, &d);
         self.connect(at, s, count)
     }
 
     // Awaits reply.
-    pub(crate) fn recv_reply(self, at: usize, body: &[u8], cookie: &[u8], out: &mut [u8]) -> Told
+    pub(crate) fn recv_challenge_reply(
+        self,
+        at: usize,
+        body: &[u8],
+        cookie: &[u8],
+        out: &mut [u8],
+    ) -> Told
         requires { ⌜ (at < 32) × (1 ≤ length (now body)) × (length (now cookie) ≤ 255) × (300 ≤ length (now out)) ⌝ }
         ensures { λ r. ⌜ r ≡ plans.concluded (now (cookie .entry)) (now (cookie .entry)) self at (plans.stagePlan (spec.expectReply self (slotAt self at) (now (body .entry)))) .told ⌝ }
         ensures { λ _. ⌜ now (out .exit) ≡ written (plans.concluded (now (cookie .entry)) (now (cookie .entry)) self at (plans.stagePlan (spec.expectReply self (slotAt self at) (now (body .entry)))) .bytes) (now (out .entry)) ⌝ }
     {
         match check_exact(body, 114, 21) {
             Check::Refuse(why) => self.refuse(at, why),
-            Check::Pass => self.send_ack(at, body, cookie, out),
+            Check::Pass => self.on_challenge_reply(at, body, cookie, out),
         }
     }
 }

@@ -61,10 +61,10 @@ impl Endpoint {
             Stage::Free => self.refuse(at, Refusal::UnknownTag),
             Stage::AwaitsName => self.recv_name(at, body, challenge, out),
             Stage::AwaitsAlive => self.recv_alive(at, body, challenge, out),
-            Stage::AwaitsReply => self.recv_reply(at, body, cookie, out),
+            Stage::AwaitsReply => self.recv_challenge_reply(at, body, cookie, out),
             Stage::AwaitsStatus => self.recv_status(at, body, out),
             Stage::AwaitsChallenge => self.recv_challenge(at, body, challenge, cookie, out),
-            Stage::AwaitsAck => self.recv_ack(at, body, cookie),
+            Stage::AwaitsAck => self.recv_challenge_ack(at, body, cookie),
             Stage::Connected => self.refuse(at, Refusal::UnknownTag),
         }
     }

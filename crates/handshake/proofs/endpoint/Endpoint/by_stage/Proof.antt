@@ -37,8 +37,8 @@ recv-alive-requires c κs = search needs
 enum-told-4 : tie.Need-enum-told-4
 enum-told-4 c = search needs
 
-recv-reply-requires : tie.Need-recv-reply-requires
-recv-reply-requires c κs =
+recv-challenge-reply-requires : tie.Need-recv-challenge-reply-requires
+recv-challenge-reply-requires c κs =
     let a = c .before .before .before .before .before .before in
     let k = a .args .cookie .now in
     (a .pre .0, a .pre .1, fit-reply k (ap (λ (st : Stage). fit st k k) (sym (c .before .enum-told4 .given .1)) ∙ a .pre .2), a .pre .3)
@@ -61,8 +61,8 @@ recv-challenge-requires c κs =
 enum-told-7 : tie.Need-enum-told-7
 enum-told-7 c = search needs
 
-recv-ack-requires : tie.Need-recv-ack-requires
-recv-ack-requires c κs =
+recv-challenge-ack-requires : tie.Need-recv-challenge-ack-requires
+recv-challenge-ack-requires c κs =
     let a = c .before .before .before .before .before in
     let k = a .args .cookie .now in
     (a .pre .0, a .pre .1, fit-ack k (ap (λ (st : Stage). fit st k k) (sym (c .enum-told7 .given .1)) ∙ a .pre .2))
@@ -116,7 +116,7 @@ returns-4 c =
     let k = a .cookie .now in
     let sl = slotAt (a .self) (a .at) in
     let d : Stage → Done = λ st. concluded k k (a .self) (a .at) (stagePlan (expected (a .self) sl (a .challenge) (a .body .now) st)) in
-    settle (d (a .stage)) (concluded k k (a .self) (a .at) (stagePlan (expectReply (a .self) sl (a .body .now)))) (ap d (c .before .before .before .before .enum-told4 .given .1)) (a .out .now) (c .before .before .recv-reply .ensures .0) (c .before .before .recv-reply .ensures .1)
+    settle (d (a .stage)) (concluded k k (a .self) (a .at) (stagePlan (expectReply (a .self) sl (a .body .now)))) (ap d (c .before .before .before .before .enum-told4 .given .1)) (a .out .now) (c .before .before .recv-challenge-reply .ensures .0) (c .before .before .recv-challenge-reply .ensures .1)
 
 same-length-4 : tie.Need-same-length-4
 same-length-4 c = search needs
@@ -149,7 +149,7 @@ returns-7 c =
     let k = a .cookie .now in
     let sl = slotAt (a .self) (a .at) in
     let d : Stage → Done = λ st. concluded k k (a .self) (a .at) (stagePlan (expected (a .self) sl (a .challenge) (a .body .now) st)) in
-    settle (d (a .stage)) (concluded k k (a .self) (a .at) (stagePlan (expectAck sl (a .body .now)))) (ap d (c .before .enum-told7 .given .1)) (a .out .now) (c .recv-ack .ensures)
+    settle (d (a .stage)) (concluded k k (a .self) (a .at) (stagePlan (expectAck sl (a .body .now)))) (ap d (c .before .enum-told7 .given .1)) (a .out .now) (c .recv-challenge-ack .ensures)
     (sym (ap (λ (bs : List ℕ). written bs (a .out .now)) (ack-silent k k (a .self) (a .at) sl (a .body .now)) ∙ written-none (a .out .now)))
 
 returns-8 : tie.Need-returns-8
@@ -172,13 +172,13 @@ by-stage-spec =
     enum-told-3
     recv-alive-requires
     enum-told-4
-    recv-reply-requires
+    recv-challenge-reply-requires
     enum-told-5
     recv-status-requires
     enum-told-6
     recv-challenge-requires
     enum-told-7
-    recv-ack-requires
+    recv-challenge-ack-requires
     enum-told-8
     refuse-requires-2
     returns

@@ -18,8 +18,8 @@ use mathlib.Core.List.{List}
 use mathlib.Core.Path.{_≡_, sym, ap, ap₂, _∙_}
 use Prim.Native.Nat.{ℕ}
 use borrow.Author.Needs.{needs}
-use Rattle.handshake.proofs.endpoint.Endpoint.send_ack.Statement.{statement}
-use Rattle.handshake.proofs.endpoint.Endpoint.send_ack.Tie as tie
+use Rattle.handshake.proofs.endpoint.Endpoint.on_challenge_reply.Statement.{statement}
+use Rattle.handshake.proofs.endpoint.Endpoint.on_challenge_reply.Tie as tie
 
 slot-requires : tie.Need-slot-requires
 slot-requires c κs = search needs
@@ -52,11 +52,11 @@ get32-requires c κs = search needs
 digest-requires : tie.Need-digest-requires
 digest-requires c κs = search needs
 
-slice-aggregate-put-ack : tie.Need-slice-aggregate-put-ack
-slice-aggregate-put-ack c = search needs
+slice-aggregate-send-challenge-ack : tie.Need-slice-aggregate-send-challenge-ack
+slice-aggregate-send-challenge-ack c = search needs
 
-put-ack-requires : tie.Need-put-ack-requires
-put-ack-requires c κs = search needs
+send-challenge-ack-requires : tie.Need-send-challenge-ack-requires
+send-challenge-ack-requires c κs = search needs
 
 connect-requires : tie.Need-connect-requires
 connect-requires c κs = search needs
@@ -78,11 +78,11 @@ returns-2 c =
     (proven-right k k (a .self) (a .at) (sl .challenge) (replyDigest b) x (said-yes v (c .before .before .before .before .before .before .before .before .if1 .left))) (a .out .now)
     (c .connect .ensures
     ∙ ap₂ (λ (s : Slot) (n : ℕ). answers (freeOther (a .self) (older (a .self) s)) (a .at) (moved s Connected) (older (a .self) s) n) (c .before .before .before .before .before .before .before .before .before .before .before .slot .ensures)
-    (c .before .before .before .put-ack .ensures .0 ∙ ap (λ (d : List ℕ). length (ackMessage d)) m))
-    (c .before .before .before .put-ack .ensures .1 ∙ ap (λ (d : List ℕ). written (ackMessage d) (a .out .now)) m)
+    (c .before .before .before .send-challenge-ack .ensures .0 ∙ ap (λ (d : List ℕ). length (ackMessage d)) m))
+    (c .before .before .before .send-challenge-ack .ensures .1 ∙ ap (λ (d : List ℕ). written (ackMessage d) (a .out .now)) m)
 
-pub send-ack-spec : {M : Type 1} → statement M
-send-ack-spec =
+pub on-challenge-reply-spec : {M : Type 1} → statement M
+on-challenge-reply-spec =
     tie.close
     (tie.spec
     slot-requires
@@ -92,8 +92,8 @@ send-ack-spec =
     returns
     get32-requires
     digest-requires
-    slice-aggregate-put-ack
-    put-ack-requires
+    slice-aggregate-send-challenge-ack
+    send-challenge-ack-requires
     connect-requires
     same-length
     returns-2)

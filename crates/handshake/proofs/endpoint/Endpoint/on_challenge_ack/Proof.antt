@@ -15,8 +15,8 @@ use mathlib.Core.List.{List, []}
 use mathlib.Core.Path.{sym, ap, ap₂, _∙_}
 use Prim.Native.Nat.{ℕ}
 use borrow.Author.Needs.{needs}
-use Rattle.handshake.proofs.endpoint.Endpoint.finish.Statement.{statement}
-use Rattle.handshake.proofs.endpoint.Endpoint.finish.Tie as tie
+use Rattle.handshake.proofs.endpoint.Endpoint.on_challenge_ack.Statement.{statement}
+use Rattle.handshake.proofs.endpoint.Endpoint.on_challenge_ack.Tie as tie
 
 slot-requires : tie.Need-slot-requires
 slot-requires c κs = search needs
@@ -60,8 +60,8 @@ returns-2 c =
     c .answer .ensures ∙ ap (λ (s : Slot). answers (a .self) (a .at) s Nothing 0) (c .before .sent .ensures ∙ ap (λ (s : Slot). moved s Connected) (c .before .before .before .before .before .slot .ensures))
     ∙ sym (ap (λ (d : Done). d .told) (proven-right k k (a .self) (a .at) (sl .challenge) (ackDigest b) x (said-yes v (c .before .before .if1 .left))))
 
-pub finish-spec : {M : Type 1} → statement M
-finish-spec =
+pub on-challenge-ack-spec : {M : Type 1} → statement M
+on-challenge-ack-spec =
     tie.close
     (tie.spec
     slot-requires

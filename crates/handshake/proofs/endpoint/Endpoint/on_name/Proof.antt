@@ -1,5 +1,5 @@
 use Rattle.handshake.proofs.StageLaws.{settle-any, attempt-at}
-use Rattle.handshake.specs.Accepting.{greeting, greet, heard, welcomes}
+use Rattle.handshake.specs.Accepting.{greeting, onName, heard, welcomes}
 use Rattle.handshake.specs.Plans.{Done, answers, answered, settled, finished, render, concluded}
 use Rattle.handshake.specs.Messages.{statusMessage, ok, okSimultaneous, nok, notAllowed, alive}
 use Rattle.handshake.specs.Endpoint.{freeSlot}
@@ -14,8 +14,8 @@ use mathlib.Core.List.{List}
 use mathlib.Core.Path.{sym, ap, ap₂, _∙_}
 use Prim.Native.Nat.{ℕ}
 use borrow.Author.Needs.{needs}
-use Rattle.handshake.proofs.endpoint.Endpoint.greet.Statement.{statement}
-use Rattle.handshake.proofs.endpoint.Endpoint.greet.Tie as tie
+use Rattle.handshake.proofs.endpoint.Endpoint.on_name.Statement.{statement}
+use Rattle.handshake.proofs.endpoint.Endpoint.on_name.Tie as tie
 
 greeting-requires : tie.Need-greeting-requires
 greeting-requires c κs = search needs
@@ -90,7 +90,7 @@ returns : tie.Need-returns
 unfolding settled finished render
 returns c =
     let a = c .before .before .before .before .before .before .before .before .before .before .before .args in
-    let d : Greeting → List ℕ → Done = λ x k. concluded k k (a .self) (a .at) (greet (a .self) (a .name .now) (a .flags) (a .creation) (a .challenge) x) in
+    let d : Greeting → List ℕ → Done = λ x k. concluded k k (a .self) (a .at) (onName (a .self) (a .name .now) (a .flags) (a .creation) (a .challenge) x) in
     let e = sym (c .before .before .before .before .before .before .before .before .greeting .ensures) ∙ c .before .before .before .before .before .before .enum-told .given .1 in
     settle-any (d (greeting (a .self) (a .name .now))) (λ k. answered (a .self) (a .at) freeSlot Nothing (statusMessage notAllowed)) (λ k. ap (λ (x : Greeting). d x k) e) (a .out .now)
     (λ k. c .before .before .say .ensures .0 ∙ ap (λ (s : Slot). answered (a .self) (a .at) s Nothing (statusMessage notAllowed) .told) (c .before .before .before .before .before .free-slot .ensures))
@@ -103,7 +103,7 @@ returns-2 : tie.Need-returns-2
 unfolding settled finished render
 returns-2 c =
     let a = c .before .before .before .before .before .before .before .before .before .before .before .args in
-    let d : Greeting → List ℕ → Done = λ x k. concluded k k (a .self) (a .at) (greet (a .self) (a .name .now) (a .flags) (a .creation) (a .challenge) x) in
+    let d : Greeting → List ℕ → Done = λ x k. concluded k k (a .self) (a .at) (onName (a .self) (a .name .now) (a .flags) (a .creation) (a .challenge) x) in
     let e = sym (c .before .before .before .before .before .before .before .before .greeting .ensures) ∙ c .before .before .before .before .before .before .enum-told2 .given .1 in
     settle-any (d (greeting (a .self) (a .name .now))) (λ k. answered (a .self) (a .at) freeSlot Nothing (statusMessage nok)) (λ k. ap (λ (x : Greeting). d x k) e) (a .out .now)
     (λ k. c .before .before .say2 .ensures .0 ∙ ap (λ (s : Slot). answered (a .self) (a .at) s Nothing (statusMessage nok) .told) (c .before .before .before .before .before .free-slot2 .ensures))
@@ -117,7 +117,7 @@ unfolding settled finished render
 returns-3 c =
     let a = c .before .before .before .before .before .before .before .before .before .before .before .before .before .args in
     let mine = c .before .before .before .before .before .before .before .before .mine .given .0 .0 in
-    let d : Greeting → List ℕ → Done = λ x k. concluded k k (a .self) (a .at) (greet (a .self) (a .name .now) (a .flags) (a .creation) (a .challenge) x) in
+    let d : Greeting → List ℕ → Done = λ x k. concluded k k (a .self) (a .at) (onName (a .self) (a .name .now) (a .flags) (a .creation) (a .challenge) x) in
     let e = sym (c .before .before .before .before .before .before .before .before .before .before .greeting .ensures) ∙ c .before .before .before .before .before .before .before .before .mine .given .1 in
     let w = welcomes (a .self) okSimultaneous (a .challenge) in
     let n = heard (a .name .now) (a .flags) (a .creation) AwaitsReply (a .challenge) in
@@ -134,7 +134,7 @@ returns-4 : tie.Need-returns-4
 unfolding settled finished render
 returns-4 c =
     let a = c .before .before .before .before .before .before .before .before .before .before .before .args in
-    let d : Greeting → List ℕ → Done = λ x k. concluded k k (a .self) (a .at) (greet (a .self) (a .name .now) (a .flags) (a .creation) (a .challenge) x) in
+    let d : Greeting → List ℕ → Done = λ x k. concluded k k (a .self) (a .at) (onName (a .self) (a .name .now) (a .flags) (a .creation) (a .challenge) x) in
     let e = sym (c .before .before .before .before .before .before .before .before .greeting .ensures) ∙ c .before .before .before .before .before .before .enum-told3 .given .1 in
     let n = heard (a .name .now) (a .flags) (a .creation) AwaitsAlive 0 in
     settle-any (d (greeting (a .self) (a .name .now))) (λ k. answered (a .self) (a .at) n Nothing (statusMessage alive)) (λ k. ap (λ (x : Greeting). d x k) e) (a .out .now)
@@ -148,7 +148,7 @@ returns-5 : tie.Need-returns-5
 unfolding settled finished render
 returns-5 c =
     let a = c .before .before .before .before .before .before .before .before .before .before .before .args in
-    let d : Greeting → List ℕ → Done = λ x k. concluded k k (a .self) (a .at) (greet (a .self) (a .name .now) (a .flags) (a .creation) (a .challenge) x) in
+    let d : Greeting → List ℕ → Done = λ x k. concluded k k (a .self) (a .at) (onName (a .self) (a .name .now) (a .flags) (a .creation) (a .challenge) x) in
     let e = sym (c .before .before .before .before .before .before .before .before .greeting .ensures) ∙ c .before .before .before .before .before .before .enum-told4 .given .1 in
     let n = heard (a .name .now) (a .flags) (a .creation) AwaitsReply (a .challenge) in
     let w = welcomes (a .self) ok (a .challenge) in
@@ -156,8 +156,8 @@ returns-5 c =
     (λ k. c .before .before .welcome2 .ensures .0 ∙ ap (λ (s : Slot). answers (a .self) (a .at) s Nothing (length w)) (c .before .before .before .before .before .heard3 .ensures))
     (λ k. c .before .before .welcome2 .ensures .1)
 
-pub greet-spec : {M : Type 1} → statement M
-greet-spec =
+pub on-name-spec : {M : Type 1} → statement M
+on-name-spec =
     tie.close
     (tie.spec
     greeting-requires

@@ -3,8 +3,8 @@ use Rattle.names.specs.Held.{nameBytes}
 use native.Mathlib.Omega.{arith}
 use Prim.Native.Nat.{_≤_}
 use borrow.Author.Needs.{needs}
-use Rattle.handshake.proofs.send.put_challenge.Statement.{statement}
-use Rattle.handshake.proofs.send.put_challenge.Tie as tie
+use Rattle.handshake.proofs.send.send_challenge.Statement.{statement}
+use Rattle.handshake.proofs.send.send_challenge.Tie as tie
 
 size-requires : tie.Need-size-requires
 size-requires c κs = search needs
@@ -48,8 +48,8 @@ returns c =
           (c .before .before .before .before .before .before .before .before .before .challenge-header .ensures) (c .before .before .before .before .before .before .put-bytes .ensures) (c .before .before .put .ensures),
     )
 
-pub put-challenge-spec : {M : Type 1} → statement M
-put-challenge-spec =
+pub send-challenge-spec : {M : Type 1} → statement M
+send-challenge-spec =
     tie.close
     (tie.spec
     size-requires

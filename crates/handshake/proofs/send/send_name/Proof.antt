@@ -3,8 +3,8 @@ use Rattle.names.specs.Held.{nameBytes}
 use native.Mathlib.Omega.{arith}
 use Prim.Native.Nat.{_≤_}
 use borrow.Author.Needs.{needs}
-use Rattle.handshake.proofs.send.put_name.Statement.{statement}
-use Rattle.handshake.proofs.send.put_name.Tie as tie
+use Rattle.handshake.proofs.send.send_name.Statement.{statement}
+use Rattle.handshake.proofs.send.send_name.Tie as tie
 
 size-requires : tie.Need-size-requires
 size-requires c κs = search needs
@@ -44,8 +44,8 @@ returns c =
       name-written (a .flags) (a .creation) n (a .out .now) (c .before .before .before .before .before .before .before .before .before .before .size .result) (c .before .before .before .before .before .before .before .before .before .before .size .ensures) (c .before .before .before .before .before .before .before .before .before .name-header .ensures) (c .before .before .before .before .before .before .put-bytes .ensures) (c .before .before .put .ensures),
     )
 
-pub put-name-spec : {M : Type 1} → statement M
-put-name-spec =
+pub send-name-spec : {M : Type 1} → statement M
+send-name-spec =
     tie.close
     (tie.spec
     size-requires
