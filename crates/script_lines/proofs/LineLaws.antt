@@ -97,3 +97,11 @@ module _ (t : List ℕ) (i : ℕ) (h : i < length t) where
 pub up-end : (t : List ℕ) (i : ℕ) → length t ≤ i → length (upTo (drop i t)) ≡ 0
 unfolding upTo
 up-end t i h = rw (drop-of-length-le t h)
+
+pub up-within : (xs : List ℕ) → length (upTo xs) ≤ length xs
+unfolding upTo
+up-within [] = omega arith
+up-within (c ∷ cs) = by (up-within cs) (eqb c 10) where
+  by : length (upTo cs) ≤ length cs → (t : Bool) → length (cond t [] (c ∷ upTo cs)) ≤ length (c ∷ cs)
+  by h true = omega arith
+  by h false = omega arith

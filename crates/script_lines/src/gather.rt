@@ -2,7 +2,7 @@
 //
 // A line over 800 characters is refused whatever it holds, so 801 bytes hold enough of any line.
 ghost use mathlib.Core.Path.{_≡_};
-ghost use Prim.Native.Nat.{_+_, _-_, _≤_};
+ghost use Prim.Native.Nat.{_+_, _-_};
 ghost use lib.ListN.{length, take, drop};
 ghost use Rattle.wire.specs.Output.{overwrite};
 ghost use Rattle.script_lines.specs.Lines.{upTo};
@@ -23,10 +23,12 @@ pub fn line_end(chunk: &[u8], from: usize) -> usize
 
 // Adds characters to the held ones, as many as there is room for, and tells how many are held.
 pub fn hold(line: &mut [u8], held: usize, part: &[u8]) -> usize
-    requires { ⌜ held ≤ length (now line) ⌝ }
     ensures { λ r. ⌜ r ≡ held + length (take (length (now (line .entry)) - held) (now (part .entry))) ⌝ }
     ensures { λ _. ⌜ now (line .exit) ≡ overwrite (now (line .entry)) held (take (length (now (line .entry)) - held) (now (part .entry))) ⌝ }
 {
+    if line.len() < held {
+        return held;
+    }
     let room = line.len() - held;
     if room < part.len() {
         wire::put_bytes(line, held, wire::get_part(part, 0, room));
