@@ -38,6 +38,29 @@ module _ (c : ℕ) where
   unfolding digitValue
   value-above h = rw (lt-leb c 57 (omega arith), le-leb 48 c (omega arith), le-leb 97 c (omega arith), lt-leb c 102 h)
 
+-- how a character stands to the digits
+pub data Digit (c : ℕ) : Type 0 where
+  numeral-at : 48 ≤ c → c ≤ 57 → Digit c
+  letter-at : 97 ≤ c → c ≤ 102 → Digit c
+  other : digitValue c ≡ 16 → Digit c
+
+pub digit-of : (c : ℕ) → Digit c
+digit-of c = by (ltb c 48) refl (leb c 57) refl (ltb c 97) refl (leb c 102) refl where
+  by : (p : Bool) → ltb c 48 ≡ p → (q : Bool) → leb c 57 ≡ q → (u : Bool) → ltb c 97 ≡ u → (v : Bool) → leb c 102 ≡ v → Digit c
+  by true e q f u g v k = other (value-below c (ltb-true c 48 e))
+  by false e true f u g v k = numeral-at (ltb-false c 48 e) (leb-true c 57 f)
+  by false e false f true g v k = other (value-between c (leb-false c 57 f) (ltb-true c 97 g))
+  by false e false f false g true k = letter-at (ltb-false c 97 g) (leb-true c 102 k)
+  by false e false f false g false k = other (value-above c (leb-false c 102 k))
+
+-- a decimal digit is a numeral
+pub numeral : (c : ℕ) → digitValue c < 10 → (48 ≤ c) × (c ≤ 57)
+numeral c h = by (digit-of c) where
+  by : Digit c → (48 ≤ c) × (c ≤ 57)
+  by (numeral-at l u) = (l, u)
+  by (letter-at l u) = absurd (omega (arith, value-letter c l u))
+  by (other e) = absurd (omega arith)
+
 -- ---- every character is a digit
 
 module _ (r : ℕ) (t : List ℕ) (i : ℕ) (h : i < length t) where
@@ -61,15 +84,9 @@ digits-at r [] i e h = absurd (omega arith)
 digits-at r (c ∷ cs) zero e h = ltb-true (digitValue c) r (and-left _ (allDigits r cs) e)
 digits-at r (c ∷ cs) (suc i) e h = digits-at r cs i (and-right (ltb (digitValue c) r) (allDigits r cs) e) (omega arith)
 
--- a decimal digit is a numeral
-pub numeral : (c : ℕ) → digitValue c < 10 → (48 ≤ c) × (c ≤ 57)
-numeral c h = by (ltb c 48) refl (leb c 57) refl (ltb c 97) refl (leb c 102) refl where
-  by : (p : Bool) → ltb c 48 ≡ p → (q : Bool) → leb c 57 ≡ q → (u : Bool) → ltb c 97 ≡ u → (v : Bool) → leb c 102 ≡ v → (48 ≤ c) × (c ≤ 57)
-  by true e q f u g v k = absurd (omega (arith, value-below c (ltb-true c 48 e)))
-  by false e true f u g v k = (ltb-false c 48 e, leb-true c 57 f)
-  by false e false f true g v k = absurd (omega (arith, value-between c (leb-false c 57 f) (ltb-true c 97 g)))
-  by false e false f false g true k = absurd (omega (arith, ltb-false c 97 g, value-letter c (ltb-false c 97 g) (leb-true c 102 k)))
-  by false e false f false g false k = absurd (omega (arith, value-above c (leb-false c 102 k)))
+pub digits-rest : (r c : ℕ) (cs : List ℕ) → allDigits r (c ∷ cs) ≡ true → allDigits r cs ≡ true
+unfolding allDigits
+digits-rest r c cs e = and-right (ltb (digitValue c) r) (allDigits r cs) e
 
 pub hex-even : (t : List ℕ) → isHex t ≡ true → (length t % 2 ≡ 0) × (allDigits 16 t ≡ true)
 unfolding isHex

@@ -3,3 +3,4 @@ pub mod Line
 pub mod Answer
 pub mod Script
 pub mod Lines
+pub mod Claims
