@@ -1,0 +1,5 @@
+pub mod TextLaws
+pub mod LineLaws
+pub mod AnswerLaws
+pub mod ScriptLaws
+pub mod ReadBack

@@ -1,0 +1,30 @@
+use mathlib.Core.Path.{_≡_, refl, sym, ap, _∙_}
+use mathlib.Core.Bool.{true, false}
+use Rattle.wire.proofs.OutputLaws.{written-none}
+use Rattle.script_lines.specs.Script.{insideGroup, endOf}
+use Rattle.script_lines.proofs.ScriptLaws.{end-inside, end-outside}
+use borrow.Author.Needs.{needs}
+use Rattle.script_lines.proofs.script.Script.end.Statement.{statement}
+use Rattle.script_lines.proofs.script.Script.end.Tie as tie
+
+inside-group-requires : tie.Need-inside-group-requires
+inside-group-requires c κs = search needs
+
+fail-requires : tie.Need-fail-requires
+fail-requires c κs = search needs
+
+same-length : tie.Need-same-length
+same-length c = search needs
+
+returns : tie.Need-returns
+returns c =
+    let s = c .before .before .before .before .before .before .before .before .args .self in
+    rw (end-inside s (sym (c .before .before .before .before .before .inside-group .ensures) ∙ c .before .before .before .before .if1 .taken)) (c .before .before .fail .ensures)
+
+returns-2 : tie.Need-returns-2
+returns-2 c =
+    let s = c .before .before .before .before .args .self in
+    rw (end-outside s (sym (c .before .inside-group .ensures) ∙ c .if1 .left)) (refl, sym (written-none (c .before .before .before .before .args .out .now)))
+
+pub end-spec : {M : Type 1} → statement M
+end-spec = tie.close (tie.spec inside-group-requires fail-requires same-length returns returns-2)
