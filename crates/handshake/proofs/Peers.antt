@@ -43,7 +43,7 @@ use Rattle.handshake.proofs.Kept.{made-fresh}
 
 -- a name that is read, held and seen again
 no-peer : nameBytes (nameOf []) ≡ []
-no-peer = name-back [] (omega arith)
+no-peer = name-back []
 
 -- ---- slots apart
 
@@ -177,10 +177,10 @@ module _ (g : Endpoint) (a : Apart g) (s : ℕ) where
         → GoodPlan (onName g n f k c (cond x NotAllowed (cond y Nok (cond z (contest v (lowest StartedTo n g)) (cond w Alive Ok)))))
     by-greeting true y z w v p q = away
     by-greeting false true z w v p q = away
-    by-greeting false false true w true p q = (λ e. absurd (omega arith), λ j m. instead (heard n f k AwaitsReply c) n (name-back n short) q j)
+    by-greeting false false true w true p q = (λ e. absurd (omega arith), λ j m. instead (heard n f k AwaitsReply c) n (name-back n) q j)
     by-greeting false false true w false p q = away
-    by-greeting false false false true v p q = (λ e. absurd (omega arith), λ j m. welcomed (heard n f k AwaitsAlive 0) n (name-back n short) refl p q j)
-    by-greeting false false false false v p q = (λ e. absurd (omega arith), λ j m. welcomed (heard n f k AwaitsReply c) n (name-back n short) refl p q j)
+    by-greeting false false false true v p q = (λ e. absurd (omega arith), λ j m. welcomed (heard n f k AwaitsAlive 0) n (name-back n) refl p q j)
+    by-greeting false false false false v p q = (λ e. absurd (omega arith), λ j m. welcomed (heard n f k AwaitsReply c) n (name-back n) refl p q j)
 
     good-name : GoodPlan (onName g n f k c (greeting g n))
     unfolding greeting
@@ -259,7 +259,7 @@ new-peer g a n short m j e = inl (cases (eqb (kindOf (slotAt g j)) 0) refl)
   where
     cases : (b : Bool) → eqb (kindOf (slotAt g j)) 0 ≡ b → peer (opened AwaitsStatus n) ≡ []
     cases true q = e ∙ a .tidy j (eqb-true (kindOf (slotAt g j)) 0 q)
-    cases false q = absurd (true≢false (sym (rw q (same-decides (peer (slotAt g j)) n .1 (sym e ∙ name-back n short))) ∙ none-found g (a .many) AnyTaken n refl m j))
+    cases false q = absurd (true≢false (sym (rw q (same-decides (peer (slotAt g j)) n .1 (sym e ∙ name-back n))) ∙ none-found g (a .many) AnyTaken n refl m j))
 
 apart-call : (g : Endpoint) (c : Call) (k : Cookies) → Apart g → Apart (next g c k)
 apart-call g c k a =

@@ -15,10 +15,10 @@ size-requires : tie.Need-size-requires
 size-requires c κs = search needs
 
 array-share-prefix-b : tie.Need-array-share-prefix-b
-array-share-prefix-b c = held-within (c .before .before .args .name) (c .before .array .ensures) (c .size .ensures)
+array-share-prefix-b c = held-within (c .before .before .args .name) (c .before .array .ensures) (c .size .ensures .0)
 
 slice-aggregate-find : tie.Need-slice-aggregate-find
-slice-aggregate-find c = sym (length-take-le (c .before .size .result) (c .before .before .array .result) (held-within (c .before .before .before .args .name) (c .before .before .array .ensures) (c .before .size .ensures)))
+slice-aggregate-find c = sym (length-take-le (c .before .size .result) (c .before .before .array .result) (held-within (c .before .before .before .args .name) (c .before .before .array .ensures) (c .before .size .ensures .0)))
 
 find-requires : tie.Need-find-requires
 find-requires c κs = search needs
@@ -26,7 +26,7 @@ find-requires c κs = search needs
 returns : tie.Need-returns
 returns c =
     let a = c .before .before .before .before .args in
-    c .find .ensures ∙ ap (λ (n : List ℕ). lowest (a .what) n (a .self)) (held-taken (a .name) (c .before .before .before .array .ensures) (c .before .before .size .ensures))
+    c .find .ensures ∙ ap (λ (n : List ℕ). lowest (a .what) n (a .self)) (held-taken (a .name) (c .before .before .before .array .ensures) (c .before .before .size .ensures .0))
 
 pub find-held-spec : {M : Type 1} → statement M
 find-held-spec =
