@@ -1,5 +1,5 @@
 use Rattle.handshake.proofs.StageLaws.{settle, early-passed, message-refused, message-framed}
-use Rattle.handshake.specs.Calls.{earlyTests, framed, messageOf}
+use Rattle.handshake.specs.Calls.{earlyTests, onFrame, messageOf}
 use Rattle.handshake.specs.Plans.{refused}
 use Rattle.handshake.specs.Cookie.{Cookies, cookies, fit}
 use Rattle.handshake.specs.Refusals.{checked}
@@ -62,9 +62,9 @@ returns-2 c =
     let k : Cookies = cookies (a .own .now) (a .standard .now) in
     let E : Slot → List ℕ → Check = λ s x. checked (earlyTests (a .slot) (s .stage) n (fit (s .stage) x x)) in
     let e = ap₂ E (sym (c .before .before .before .before .before .before .before .slot .ensures)) (sym (c .before .before .before .before .before .before .before .before .choose .ensures)) ∙ sym (c .before .before .before .before .before .before .check-early .ensures) ∙ c .before .before .before .before .enum-told .given .1 in
-    settle (messageOf k (a .self) (a .slot) (a .frame .now) (a .challenge) n) (framed x x (a .self) (a .slot) (s .stage) (a .frame .now) (a .challenge))
+    settle (messageOf k (a .self) (a .slot) (a .frame .now) (a .challenge) n) (onFrame x x (a .self) (a .slot) (s .stage) (a .frame .now) (a .challenge))
     (message-framed k (a .self) (a .slot) (a .frame .now) (a .challenge) n e
-    ∙ ap₂ (λ (t : Slot) (y : List ℕ). framed y y (a .self) (a .slot) (t .stage) (a .frame .now) (a .challenge)) (sym (c .before .before .before .before .before .before .before .slot .ensures)) (sym (c .before .before .before .before .before .before .before .before .choose .ensures)))
+    ∙ ap₂ (λ (t : Slot) (y : List ℕ). onFrame y y (a .self) (a .slot) (t .stage) (a .frame .now) (a .challenge)) (sym (c .before .before .before .before .before .before .before .slot .ensures)) (sym (c .before .before .before .before .before .before .before .before .choose .ensures)))
     (a .out .now) (c .before .before .on-frame .ensures .0) (c .before .before .on-frame .ensures .1)
 
 pub message-spec : {M : Type 1} → statement M
