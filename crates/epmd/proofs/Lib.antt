@@ -5,3 +5,4 @@ pub mod ServeLaws
 pub mod Calls
 pub mod Reachable
 pub mod Cases
+pub mod Promises
