@@ -1,13 +1,17 @@
 -- Laws of slots: what a slot is after a change, and what a look-up finds. Assumes nothing.
+use Rattle.handshake.specs.declared.endpoint.Sought.the-variants.{AnyFree, AcceptedFrom, StartedTo, ConnectedTo, AnyTaken}
+use Rattle.names.specs.Held.{nameBytes}
+use Rattle.wire.specs.Run.{sameBytes}
+use Rattle.wire.specs.Lookup.{firstAt}
 use Prim.Native.Nat.{ℕ, zero, suc, _<_, _≤_}
 use mathlib.Core.Path.{_≡_, refl, sym, _∙_, ap}
 use mathlib.Core.Logic.{_⊎_, inl, inr, ⊎-map}
-use mathlib.Core.Bool.{Bool, true, false, _&&_, true≢false}
+use mathlib.Core.Bool.{Bool, true, false, _&&_, true≢false, cond, not}
 use mathlib.Core.List.{List, [], _∷_}
 use native.Mathlib.Omega.{arith}
 use lib.ListN.{length, getD, set, replicate, length-map}
-use lib.Dec.{ltb}
-use borrow.Author.Tests.{ltb-true, ltb-false}
+use lib.Dec.{ltb, eqb}
+use borrow.Author.Tests.{ltb-true, ltb-false, le-ltb, ne-eqb, eqb-true}
 use Rattle.wire.proofs.LookupLaws.{first-passes, first-before}
 use Rattle.wire.proofs.RunLaws.{and-left, and-right}
 use mir.Val.{Val}
@@ -21,7 +25,7 @@ use Rattle.handshake.specs.declared.endpoint.Slot.{Slot}
 use Rattle.handshake.specs.declared.endpoint.Endpoint.{Endpoint}
 use Rattle.handshake.specs.declared.endpoint.Sought.{Sought}
 use Rattle.handshake.specs.Refusals.{Fate, keep, free, messageFate, isFree}
-use Rattle.handshake.specs.Endpoint.{freeSlot, slotAt, freed, sought, lowest, isSlot}
+use Rattle.handshake.specs.Endpoint.{freeSlot, slotAt, freed, sought, lowest, isSlot, kind}
 use Rattle.handshake.specs.Plans.{spared}
 
 -- a slot after a change is what it was, or what was put there
@@ -108,3 +112,33 @@ module _ (g : Endpoint) (many : length (g .slots) ≡ 32) (w : Sought) (n : List
 
 pub both-true : (a b : Bool) → (a && b) ≡ true → (a ≡ true) × (b ≡ true)
 both-true a b e = (and-left a b e, and-right a b e)
+
+-- ---- a peer that has no slot at all
+
+first-none : (p q : Slot → Bool) → ((x : Slot) → q x ≡ false → p x ≡ false) → (l : List Slot) → length l ≤ firstAt q l → length l ≤ firstAt p l
+unfolding firstAt
+first-none p q h [] e = omega arith
+first-none p q h (x ∷ l) e = by (λ k. first-none p q h l k) (q x) refl e where
+  by : (length l ≤ firstAt q l → length l ≤ firstAt p l) → (b : Bool) → q x ≡ b → suc (length l) ≤ cond b zero (suc (firstAt q l))
+      → suc (length l) ≤ cond (p x) zero (suc (firstAt p l))
+  by later true t e = absurd (omega arith)
+  by later false t e = rw (h x t) (omega (arith, later (omega arith)))
+
+kind-untaken : (k j : ℕ) (b : Bool) → (j ≡ 0 → ⊥) → (not (eqb k 0) && b) ≡ false → (eqb k j && b) ≡ false
+kind-untaken k j b z e = by (eqb k j) refl where
+  by : (x : Bool) → eqb k j ≡ x → (x && b) ≡ false
+  by true t = sym (rw (ne-eqb k 0 (λ y. z (sym (eqb-true k j t) ∙ y)))) ∙ e
+  by false t = refl
+
+-- each kind that has a peer is taken
+untaken : (w : Sought) (n : List ℕ) → (w ≡ AnyFree → ⊥) → (x : Slot) → sought AnyTaken n x ≡ false → sought w n x ≡ false
+untaken AnyFree n z x e = absurd (z refl)
+untaken AcceptedFrom n z x e = kind-untaken (kind (x .stage)) 1 (sameBytes (nameBytes (x .name)) n) (λ y. omega arith) e
+untaken StartedTo n z x e = kind-untaken (kind (x .stage)) 2 (sameBytes (nameBytes (x .name)) n) (λ y. omega arith) e
+untaken ConnectedTo n z x e = kind-untaken (kind (x .stage)) 3 (sameBytes (nameBytes (x .name)) n) (λ y. omega arith) e
+untaken AnyTaken n z x e = e
+
+pub no-slot : (g : Endpoint) → length (g .slots) ≡ 32 → (w : Sought) (n : List ℕ) → (w ≡ AnyFree → ⊥) → 32 ≤ lowest AnyTaken n g → isSlot (lowest w n g) ≡ false
+no-slot g many w n z h =
+    le-ltb (lowest w n g) 32
+    (omega (arith, many, first-none (sought w n) (sought AnyTaken n) (untaken w n z) (g .slots) (omega (arith, many))))

@@ -1,9 +1,12 @@
+use Rattle.handshake.proofs.SlotLaws.{slots-long, no-slot}
 use Rattle.handshake.specs.Accepting.{greeting, contest, isGreater}
 use Rattle.handshake.specs.Endpoint.{isSlot, lowest}
-use Rattle.handshake.specs.declared.endpoint.Sought.the-variants.{AcceptedFrom, StartedTo, ConnectedTo}
+use Rattle.handshake.specs.declared.endpoint.Sought.the-variants.{AcceptedFrom, StartedTo, ConnectedTo, AnyTaken}
 use Rattle.names.specs.Held.{nameBytes}
 use Rattle.wire.specs.Run.{order}
 use borrow.Author.Tests.{lt-ltb, le-ltb}
+use native.Mathlib.Omega.{arith}
+use Prim.Native.Nat.{ℕ, _≤_}
 use mathlib.Core.Bool.{true, false}
 use mathlib.Core.Path.{_≡_, sym, ap, _∙_}
 use borrow.Author.Needs.{needs}
@@ -23,45 +26,63 @@ find-requires c κs = search needs
 returns-2 : tie.Need-returns-2
 unfolding greeting
 returns-2 c =
-    let a = c .before .before .before .before .before .before .args in
-    let f : isSlot (lowest AcceptedFrom (a .name .now) (a .self)) ≡ true = ap isSlot (sym (c .before .find .ensures)) ∙ lt-ltb _ _ (c .if2 .taken) in
-    rw (sym (c .before .before .before .is .ensures) ∙ c .before .before .if1 .left, f)
+    let a = c .before .before .before .before .before .before in
+    let g = a .args .self in
+    let n = a .args .name .now in
+    let many = slots-long g _ (a .good .0) in
+    let t : 32 ≤ lowest AnyTaken n g = omega (arith, c .before .find .ensures, c .if2 .taken) in
+    rw (
+      sym (c .before .before .before .is .ensures) ∙ c .before .before .if1 .left,
+      no-slot g many AcceptedFrom n (λ e. let z : _≡_ {A = ℕ} 0 1 = cc in omega arith) t,
+      no-slot g many StartedTo n (λ e. let z : _≡_ {A = ℕ} 0 1 = cc in omega arith) t,
+      no-slot g many ConnectedTo n (λ e. let z : _≡_ {A = ℕ} 0 1 = cc in omega arith) t,
+    )
 
 find-requires-2 : tie.Need-find-requires-2
 find-requires-2 c κs = search needs
 
-contest-requires : tie.Need-contest-requires
-contest-requires c κs = search needs
-
 returns-3 : tie.Need-returns-3
 unfolding greeting
 returns-3 c =
-    let a = c .before .before .before .before .before .before .before .before .before .args in
-    let f : isSlot (lowest AcceptedFrom (a .name .now) (a .self)) ≡ false = ap isSlot (sym (c .before .before .before .before .find .ensures)) ∙ le-ltb _ _ (c .before .before .before .if2 .left) in
-    let m : isSlot (lowest StartedTo (a .name .now) (a .self)) ≡ true = ap isSlot (sym (c .before .before .find2 .ensures)) ∙ lt-ltb _ _ (c .before .if3 .taken) in
-    rw (sym (c .before .before .before .before .before .before .is .ensures) ∙ c .before .before .before .before .before .if1 .left, f, m)
-    (c .contest .ensures ∙ ap (contest (isGreater (order (a .name .now) (nameBytes (a .self .name))))) (c .before .before .find2 .ensures))
+    let a = c .before .before .before .before .before .before .before .before .args in
+    let f : isSlot (lowest AcceptedFrom (a .name .now) (a .self)) ≡ true = ap isSlot (sym (c .before .find2 .ensures)) ∙ lt-ltb _ _ (c .if3 .taken) in
+    rw (sym (c .before .before .before .before .before .is .ensures) ∙ c .before .before .before .before .if1 .left, f)
 
 find-requires-3 : tie.Need-find-requires-3
 find-requires-3 c κs = search needs
 
+contest-requires : tie.Need-contest-requires
+contest-requires c κs = search needs
+
 returns-4 : tie.Need-returns-4
 unfolding greeting
 returns-4 c =
-    let a = c .before .before .before .before .before .before .before .before .before .before .args in
-    let f : isSlot (lowest AcceptedFrom (a .name .now) (a .self)) ≡ false = ap isSlot (sym (c .before .before .before .before .before .find .ensures)) ∙ le-ltb _ _ (c .before .before .before .before .if2 .left) in
-    let m : isSlot (lowest StartedTo (a .name .now) (a .self)) ≡ false = ap isSlot (sym (c .before .before .before .find2 .ensures)) ∙ le-ltb _ _ (c .before .before .if3 .left) in
-    let l : isSlot (lowest ConnectedTo (a .name .now) (a .self)) ≡ true = ap isSlot (sym (c .before .find3 .ensures)) ∙ lt-ltb _ _ (c .if4 .taken) in
-    rw (sym (c .before .before .before .before .before .before .before .is .ensures) ∙ c .before .before .before .before .before .before .if1 .left, f, m, l)
+    let a = c .before .before .before .before .before .before .before .before .before .before .before .args in
+    let f : isSlot (lowest AcceptedFrom (a .name .now) (a .self)) ≡ false = ap isSlot (sym (c .before .before .before .before .find2 .ensures)) ∙ le-ltb _ _ (c .before .before .before .if3 .left) in
+    let m : isSlot (lowest StartedTo (a .name .now) (a .self)) ≡ true = ap isSlot (sym (c .before .before .find3 .ensures)) ∙ lt-ltb _ _ (c .before .if4 .taken) in
+    rw (sym (c .before .before .before .before .before .before .before .before .is .ensures) ∙ c .before .before .before .before .before .before .before .if1 .left, f, m)
+    (c .contest .ensures ∙ ap (contest (isGreater (order (a .name .now) (nameBytes (a .self .name))))) (c .before .before .find3 .ensures))
+
+find-requires-4 : tie.Need-find-requires-4
+find-requires-4 c κs = search needs
 
 returns-5 : tie.Need-returns-5
 unfolding greeting
 returns-5 c =
-    let a = c .before .before .before .before .before .before .before .before .before .before .args in
-    let f : isSlot (lowest AcceptedFrom (a .name .now) (a .self)) ≡ false = ap isSlot (sym (c .before .before .before .before .before .find .ensures)) ∙ le-ltb _ _ (c .before .before .before .before .if2 .left) in
-    let m : isSlot (lowest StartedTo (a .name .now) (a .self)) ≡ false = ap isSlot (sym (c .before .before .before .find2 .ensures)) ∙ le-ltb _ _ (c .before .before .if3 .left) in
-    let l : isSlot (lowest ConnectedTo (a .name .now) (a .self)) ≡ false = ap isSlot (sym (c .before .find3 .ensures)) ∙ le-ltb _ _ (c .if4 .left) in
-    rw (sym (c .before .before .before .before .before .before .before .is .ensures) ∙ c .before .before .before .before .before .before .if1 .left, f, m, l)
+    let a = c .before .before .before .before .before .before .before .before .before .before .before .before .args in
+    let f : isSlot (lowest AcceptedFrom (a .name .now) (a .self)) ≡ false = ap isSlot (sym (c .before .before .before .before .before .find2 .ensures)) ∙ le-ltb _ _ (c .before .before .before .before .if3 .left) in
+    let m : isSlot (lowest StartedTo (a .name .now) (a .self)) ≡ false = ap isSlot (sym (c .before .before .before .find3 .ensures)) ∙ le-ltb _ _ (c .before .before .if4 .left) in
+    let l : isSlot (lowest ConnectedTo (a .name .now) (a .self)) ≡ true = ap isSlot (sym (c .before .find4 .ensures)) ∙ lt-ltb _ _ (c .if5 .taken) in
+    rw (sym (c .before .before .before .before .before .before .before .before .before .is .ensures) ∙ c .before .before .before .before .before .before .before .before .if1 .left, f, m, l)
+
+returns-6 : tie.Need-returns-6
+unfolding greeting
+returns-6 c =
+    let a = c .before .before .before .before .before .before .before .before .before .before .before .before .args in
+    let f : isSlot (lowest AcceptedFrom (a .name .now) (a .self)) ≡ false = ap isSlot (sym (c .before .before .before .before .before .find2 .ensures)) ∙ le-ltb _ _ (c .before .before .before .before .if3 .left) in
+    let m : isSlot (lowest StartedTo (a .name .now) (a .self)) ≡ false = ap isSlot (sym (c .before .before .before .find3 .ensures)) ∙ le-ltb _ _ (c .before .before .if4 .left) in
+    let l : isSlot (lowest ConnectedTo (a .name .now) (a .self)) ≡ false = ap isSlot (sym (c .before .find4 .ensures)) ∙ le-ltb _ _ (c .if5 .left) in
+    rw (sym (c .before .before .before .before .before .before .before .before .before .is .ensures) ∙ c .before .before .before .before .before .before .before .before .if1 .left, f, m, l)
 
 pub greeting-spec : {M : Type 1} → statement M
 greeting-spec =
@@ -72,8 +93,10 @@ greeting-spec =
     find-requires
     returns-2
     find-requires-2
-    contest-requires
     returns-3
     find-requires-3
+    contest-requires
     returns-4
-    returns-5)
+    find-requires-4
+    returns-5
+    returns-6)
