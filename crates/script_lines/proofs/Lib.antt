@@ -3,3 +3,4 @@ pub mod LineLaws
 pub mod AnswerLaws
 pub mod ScriptLaws
 pub mod ReadBack
+pub mod TakeLaws
