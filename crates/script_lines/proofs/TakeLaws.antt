@@ -7,7 +7,7 @@ use native.Mathlib.Omega.{arith}
 use lib.ListN.{length, take, drop, length-append, length-take, length-drop}
 use lib.Seq.{take-at, take-all, take-append-add, length-take-le}
 use lib.Dec.{eqb, ltb}
-use borrow.Author.Tests.{lt-ltb, le-ltb, eqb-true, eqb-false}
+use borrow.Author.Tests.{lt-ltb, le-ltb, ltb-true, ltb-false}
 use Rattle.wire.specs.Output.{overwrite}
 use Rattle.wire.specs.Run.{part}
 use Rattle.script_lines.specs.declared.script.Script.{Script}
@@ -66,3 +66,17 @@ unfolding part
 chars-there p from end e =
     let n : end - from ≡ length (upTo (drop from p)) = omega arith in
     ap (λ (k : ℕ). take k (drop from p)) n ∙ up-front (drop from p)
+
+-- each turn takes something, and holds no more than there is room for
+module _ (s : Script) (held xs : List ℕ) where
+  pub take-goes : 1 ≤ length xs → length (takeOf s held xs .rest) < length xs
+  take-goes h = by (ltb (length (upTo xs)) (length xs)) refl where
+    by : (t : Bool) → ltb (length (upTo xs)) (length xs) ≡ t → length (takeOf s held xs .rest) < length xs
+    by true e = rw (take-line s held xs (ltb-true (length (upTo xs)) (length xs) e)) (omega (arith, length-drop (suc (length (upTo xs))) xs))
+    by false e = rw (take-part s held xs (ltb-false (length (upTo xs)) (length xs) e)) (omega arith)
+
+  pub take-held : length (takeOf s held xs .held) ≤ 801
+  take-held = by (ltb (length (upTo xs)) (length xs)) refl where
+    by : (t : Bool) → ltb (length (upTo xs)) (length xs) ≡ t → length (takeOf s held xs .held) ≤ 801
+    by true e = rw (take-line s held xs (ltb-true (length (upTo xs)) (length xs) e)) (omega arith)
+    by false e = rw (take-part s held xs (ltb-false (length (upTo xs)) (length xs) e)) (omega (arith, length-take 801 (held ++ xs)))
