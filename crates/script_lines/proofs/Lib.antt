@@ -4,3 +4,4 @@ pub mod AnswerLaws
 pub mod ScriptLaws
 pub mod ReadBack
 pub mod TakeLaws
+pub mod PartLaws
