@@ -5,3 +5,4 @@ pub mod ScriptLaws
 pub mod ReadBack
 pub mod TakeLaws
 pub mod PartLaws
+pub mod WholeCase

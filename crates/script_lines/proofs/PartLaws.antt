@@ -15,7 +15,7 @@ use Rattle.script_lines.specs.declared.script.Script.{Script}
 use Rattle.script_lines.specs.Line.{itemOf}
 use Rattle.script_lines.specs.Script.{Outcome, planOf, outcomeOf, lineOf, endOf}
 use Rattle.script_lines.specs.Lines.{upTo, linesFrom, printedFrom, kept, takeOf}
-use Rattle.script_lines.specs.Claims.{toPrint, PartsPrint, WholeCase}
+use Rattle.script_lines.specs.Claims.{toPrint, PartsPrint}
 use Rattle.script_lines.proofs.LineLaws.{item-long, up-within}
 use Rattle.script_lines.proofs.TakeLaws.{take-line, take-part, up-all}
 

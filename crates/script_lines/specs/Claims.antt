@@ -36,7 +36,7 @@ PartsPrint =
     (s : Script) (held xs more : List ℕ)
     → toPrint s held (xs ++ more) ≡ takeOf s held xs .bytes ++ toPrint (takeOf s held xs .script) (takeOf s held xs .held) (takeOf s held xs .rest ++ more)
 
--- "Whole case: `op=req`, `conn=9`, `hex=00016e` prints `result=0`, `hex=00001111`." The last newline may lack (PartLaws.whole-case)
+-- "Whole case: `op=req`, `conn=9`, `hex=00016e` prints `result=0`, `hex=00001111`." The last newline may lack (WholeCase.whole-case)
 abbrev pub wholeIn : List ℕ
 wholeIn =
     111 ∷ 112 ∷ 61 ∷ 114 ∷ 101 ∷ 113 ∷ 10 ∷ 99 ∷ 111 ∷ 110 ∷ 110 ∷ 61 ∷ 57 ∷ 10
