@@ -2,10 +2,12 @@
 use Prim.Native.Nat.{ℕ, _^_, _≤_, _<_}
 use mathlib.Core.Path.{_≡_}
 use mathlib.Core.Bool.{true}
-use mathlib.Core.List.{List}
+use mathlib.Core.List.{List, [], _∷_, _++_}
 use Rattle.wire.specs.Claims.{Octets}
 use Rattle.wire.specs.Decimal.{decimal, value}
+use Rattle.script_lines.specs.declared.script.Script.{Script}
 use Rattle.script_lines.specs.Text.{isHex, unhex, hexOf, isDecimal}
+use Rattle.script_lines.specs.Lines.{linesFrom, printedFrom, printed, takeOf}
 
 -- bytes written as text are read back (ReadBack.hex-back)
 abbrev pub HexBack : Type 0
@@ -22,3 +24,28 @@ DecimalBack = (n : ℕ) → n < 2 ^ 32 → ((isDecimal (decimal n) ≡ true) × 
 -- and no other text is taken (ReadBack.decimal-taken)
 abbrev pub DecimalTaken : Type 0
 DecimalTaken = (cs : List ℕ) → isDecimal cs ≡ true → ((value cs < 2 ^ 32) × (cs ≡ decimal (value cs)))
+
+-- what a run has still to print, with some characters of a line held and so much of the input to come
+abbrev pub toPrint : Script → List ℕ → List ℕ → List ℕ
+toPrint s held input = printedFrom s (linesFrom held input)
+
+-- an input that comes in parts prints what the whole input prints: what is taken from a part xs prints the first of it, and leaves the rest to print,
+-- whatever comes behind (PartLaws.parts-print)
+abbrev pub PartsPrint : Type 0
+PartsPrint =
+    (s : Script) (held xs more : List ℕ)
+    → toPrint s held (xs ++ more) ≡ takeOf s held xs .bytes ++ toPrint (takeOf s held xs .script) (takeOf s held xs .held) (takeOf s held xs .rest ++ more)
+
+-- "Whole case: `op=req`, `conn=9`, `hex=00016e` prints `result=0`, `hex=00001111`." The last newline may lack (WholeCase.whole-case)
+abbrev pub wholeIn : List ℕ
+wholeIn =
+    111 ∷ 112 ∷ 61 ∷ 114 ∷ 101 ∷ 113 ∷ 10 ∷ 99 ∷ 111 ∷ 110 ∷ 110 ∷ 61 ∷ 57 ∷ 10
+    ∷ 104 ∷ 101 ∷ 120 ∷ 61 ∷ 48 ∷ 48 ∷ 48 ∷ 49 ∷ 54 ∷ 101 ∷ []
+
+abbrev pub wholeOut : List ℕ
+wholeOut =
+    114 ∷ 101 ∷ 115 ∷ 117 ∷ 108 ∷ 116 ∷ 61 ∷ 48 ∷ 10
+    ∷ 104 ∷ 101 ∷ 120 ∷ 61 ∷ 48 ∷ 48 ∷ 48 ∷ 48 ∷ 49 ∷ 49 ∷ 49 ∷ 49 ∷ 10 ∷ []
+
+abbrev pub WholeCase : Type 0
+WholeCase = (printed wholeIn ≡ wholeOut) × (printed (wholeIn ++ (10 ∷ [])) ≡ wholeOut)

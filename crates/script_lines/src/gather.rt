@@ -8,7 +8,7 @@ ghost use Rattle.wire.specs.Output.{overwrite};
 ghost use Rattle.script_lines.specs.Lines.{upTo};
 
 // Where the line that begins at an index ends: the index of its newline, or the end of what is there.
-pub fn line_end(chunk: &[u8], from: usize) -> usize
+pub(crate) fn line_end(chunk: &[u8], from: usize) -> usize
     ensures { λ r. ⌜ r ≡ from + length (upTo (drop from (now (chunk .entry)))) ⌝ }
 {
     let mut i = from;
@@ -22,7 +22,7 @@ pub fn line_end(chunk: &[u8], from: usize) -> usize
 }
 
 // Adds characters to the held ones, as many as there is room for, and tells how many are held.
-pub fn hold(line: &mut [u8], held: usize, part: &[u8]) -> usize
+pub(crate) fn hold(line: &mut [u8], held: usize, part: &[u8]) -> usize
     ensures { λ r. ⌜ r ≡ held + length (take (length (now (line .entry)) - held) (now (part .entry))) ⌝ }
     ensures { λ _. ⌜ now (line .exit) ≡ overwrite (now (line .entry)) held (take (length (now (line .entry)) - held) (now (part .entry))) ⌝ }
 {

@@ -9,10 +9,9 @@ mod line;
 mod script;
 mod text;
 
-pub use gather::hold;
-pub use gather::line_end;
 pub use line::Item;
 pub use line::item_of;
 pub use script::Awaits;
 pub use script::Script;
 pub use script::Stepped;
+pub use script::Taken;

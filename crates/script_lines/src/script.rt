@@ -1,13 +1,16 @@
 // A run of a script (01, The script program), line by line.
 ghost use mathlib.Core.Path.{_≡_};
-ghost use Prim.Native.Nat.{_≤_};
+ghost use Prim.Native.Nat.{_-_, _≤_};
 ghost use mathlib.Core.Bool.{true};
-ghost use lib.ListN.{length};
-ghost use Rattle.wire.specs.Output.{written};
+ghost use lib.ListN.{length, take, drop};
+ghost use Rattle.wire.specs.Output.{overwrite, written};
 ghost use Rattle.epmd.specs.Serve.{requestOf};
 ghost use Rattle.script_lines.specs.Text.{isHex, unhex};
 ghost use Rattle.script_lines.specs.Script.{planOf, insideGroup, hasEnded, told, answered, failed, lineOf, endOf, started};
+ghost use Rattle.script_lines.specs.Lines.{upTo, taken, takeOf};
 use crate::answer::put_answer;
+use crate::gather::hold;
+use crate::gather::line_end;
 use crate::line::Item;
 use crate::line::item_of;
 use crate::text::get_hex;
@@ -39,6 +42,15 @@ pub struct Script {
 
 pub struct Stepped {
     pub script: Script,
+    pub written: usize,
+}
+
+// What was taken from a part of the input: the run after it, how many characters of a line are now
+// held, where the part goes on, and how many bytes are to be printed.
+pub struct Taken {
+    pub script: Script,
+    pub held: usize,
+    pub next: usize,
     pub written: usize,
 }
 
@@ -192,6 +204,42 @@ impl Script {
         Stepped {
             script: self,
             written: 0,
+        }
+    }
+
+    // Takes a line from a part of the input that comes in parts, or what is there of one. The first
+    // characters of `line` are what is held of a line that began in an earlier part.
+    pub fn take(
+        self,
+        part: &[u8],
+        from: usize,
+        line: &mut [u8],
+        held: usize,
+        out: &mut [u8],
+    ) -> Taken
+        requires { ⌜ (from ≤ length (now part)) × (held ≤ 801) × (length (now line) ≡ 801) × (35222 ≤ length (now out)) ⌝ }
+        ensures { λ r. ⌜ r ≡ taken (length (now (part .entry))) (takeOf self (take held (now (line .entry))) (drop from (now (part .entry)))) ⌝ }
+        ensures { λ _. ⌜ now (line .exit) ≡ overwrite (now (line .entry)) held (take (801 - held) (upTo (drop from (now (part .entry))))) ⌝ }
+        ensures { λ _. ⌜ now (out .exit) ≡ written (takeOf self (take held (now (line .entry))) (drop from (now (part .entry))) .bytes) (now (out .entry)) ⌝ }
+    {
+        let end = line_end(part, from);
+        let h = hold(line, held, wire::get_part(part, from, end - from));
+        if end == part.len() {
+            return Taken {
+                script: self,
+                held: h,
+                next: end,
+                written: 0,
+            };
+        }
+        let next = end + 1;
+        let stepped = self.line(wire::get_part(line, 0, h), out);
+        let script = stepped.script;
+        Taken {
+            script,
+            held: 0,
+            next,
+            written: stepped.written,
         }
     }
 }

@@ -1,16 +1,15 @@
 use Prim.Native.Nat.{_≤_}
-use mathlib.Core.Path.{_≡_, refl}
-use native.Mathlib.Omega.{arith}
+use mathlib.Core.Path.{_≡_}
 use lib.ListN.{length}
 use borrow.Author.Needs.{needs}
 use Rattle.script.proofs.run.Statement.{statement}
 use Rattle.script.proofs.run.Tie as tie
 
 abbrev Inv-loop : tie.InvT-loop
-Inv-loop chunk₀ line₀ out₀ at₀ reads₀ chunk line out at reads = (at .held ≤ length line₀) × (length chunk ≡ length chunk₀) × (length line ≡ length line₀) × (length out ≡ length out₀)
+Inv-loop part₀ line₀ out₀ at₀ reads₀ part line out at reads = (at .held ≤ 801) × (length part ≡ length part₀) × (length line ≡ 801) × (length line ≡ length line₀) × (length out ≡ length out₀)
 
 abbrev μ-loop : tie.MeasureT-loop
-μ-loop chunk₀ line₀ out₀ at₀ reads₀ chunk line out at reads = reads
+μ-loop part₀ line₀ out₀ at₀ reads₀ part line out at reads = reads
 
 start-requires : tie.Need-start-requires Inv-loop μ-loop
 start-requires c κs = search needs
@@ -42,8 +41,8 @@ returns c = search needs
 get-part-requires : tie.Need-get-part-requires Inv-loop μ-loop
 get-part-requires c κs = search needs
 
-take-chunk-requires : tie.Need-take-chunk-requires Inv-loop μ-loop
-take-chunk-requires c κs = search needs
+take-part-requires : tie.Need-take-part-requires Inv-loop μ-loop
+take-part-requires c κs = search needs
 
 has-ended-requires : tie.Need-has-ended-requires Inv-loop μ-loop
 has-ended-requires c κs = search needs
@@ -97,7 +96,7 @@ run-spec =
     same-length-3
     returns
     get-part-requires
-    take-chunk-requires
+    take-part-requires
     has-ended-requires
     same-length-4
     same-length-5

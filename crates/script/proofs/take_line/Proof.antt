@@ -1,60 +1,47 @@
-use Prim.Native.Nat.{_-_}
+use Prim.Native.Nat.{ℕ, _-_, _<_, _≤_}
+use mathlib.Core.Path.{_≡_, ap}
+use mathlib.Core.List.{List}
 use native.Mathlib.Omega.{arith}
-use lib.ListN.{length, drop, length-drop, length-take}
-use Rattle.script_lines.proofs.LineLaws.{up-within}
+use lib.ListN.{length, take, drop, length-drop}
+use Rattle.script_lines.specs.declared.script.Taken.{Taken}
+use Rattle.script_lines.specs.Lines.{takeOf}
+use Rattle.script_lines.proofs.AnswerLaws.{written-holds}
+use Rattle.script_lines.proofs.TakeLaws.{take-goes, take-held}
 use borrow.Author.Needs.{needs}
 use Rattle.script.proofs.take_line.Statement.{statement}
 use Rattle.script.proofs.take_line.Tie as tie
 
-line-end-requires : tie.Need-line-end-requires
-line-end-requires c κs = search needs
-
-sub-get-part : tie.Need-sub-get-part
-sub-get-part c = search needs
+take-requires : tie.Need-take-requires
+take-requires c κs = search needs
 
 get-part-requires : tie.Need-get-part-requires
-get-part-requires c κs = omega (arith, c .before .line-end .ensures, up-within (drop (c .before .before .before .before .before .args .from) (c .before .before .before .before .before .args .chunk .now)), length-drop (c .before .before .before .before .before .args .from) (c .before .before .before .before .before .args .chunk .now))
+get-part-requires c κs =
+    let p = c .before .before .before .before .before .take in
+    omega (arith, written-holds _ _ _ (p .result .written) (p .ensures .1 .1) (ap (λ (x : Taken). x .written) (p .ensures .0)))
 
-hold-requires : tie.Need-hold-requires
-hold-requires c κs = search needs
+write-all-requires : tie.Need-write-all-requires
+write-all-requires c κs = search needs
 
 same-length : tie.Need-same-length
 same-length c = search needs
 
-returns : tie.Need-returns
-returns c = (omega (arith, c .before .before .before .hold .ensures .0, length-take (length (c .before .before .before .before .before .before .before .before .before .before .args .line .now) - c .before .before .before .before .before .before .before .before .before .before .args .held) (c .before .before .before .before .get-part .result .now)), search needs)
-
-get-part-requires-2 : tie.Need-get-part-requires-2
-get-part-requires-2 c κs = omega (arith, c .before .before .before .before .hold .ensures .0, length-take (length (c .before .before .before .before .before .before .before .before .before .before .before .args .line .now) - c .before .before .before .before .before .before .before .before .before .before .before .args .held) (c .before .before .before .before .before .get-part .result .now))
-
-print-line-requires : tie.Need-print-line-requires
-print-line-requires c κs = search needs
-
-add-t13 : tie.Need-add-t13
-add-t13 c = omega (arith, c .before .before .before .before .before .before .before .before .before .before .before .before .line-end .ensures, up-within (drop (c .before .before .before .before .before .before .before .before .before .before .before .before .before .before .before .before .args .from) (c .before .before .before .before .before .before .before .before .before .before .before .before .before .before .before .before .args .chunk .now)), length-drop (c .before .before .before .before .before .before .before .before .before .before .before .before .before .before .before .before .args .from) (c .before .before .before .before .before .before .before .before .before .before .before .before .before .before .before .before .args .chunk .now))
-
 same-length-2 : tie.Need-same-length-2
 same-length-2 c = search needs
 
-same-length-3 : tie.Need-same-length-3
-same-length-3 c = search needs
-
-returns-2 : tie.Need-returns-2
-returns-2 c = search needs
+returns : tie.Need-returns
+returns c =
+    let a = c .before .before .before .before .before .before .before .before .before .before .before .before .before .before .args in
+    let p = c .before .before .before .before .before .before .before .take in
+    let s = a .at .script in
+    let held : List ℕ = take (a .at .held) (a .line .now) in
+    let xs : List ℕ = drop (a .at .next) (a .part .now) in
+    let size : length xs ≡ length (a .part .now) - a .at .next = length-drop (a .at .next) (a .part .now) in
+    let h : p .result .held ≡ length (takeOf s held xs .held) = ap (λ (x : Taken). x .held) (p .ensures .0) in
+    let n : p .result .next ≡ length (a .part .now) - length (takeOf s held xs .rest) = ap (λ (x : Taken). x .next) (p .ensures .0) in
+    let pre = c .before .before .before .before .before .before .before .before .before .before .before .before .before .before .pre in
+    (omega (arith, h, take-held s held xs), omega (arith, n, take-goes s held xs (omega (arith, size, pre .1))))
 
 pub take-line-spec : {M : Type 1} → statement M
 take-line-spec =
     tie.close
-    (tie.spec
-    line-end-requires
-    sub-get-part
-    get-part-requires
-    hold-requires
-    same-length
-    returns
-    get-part-requires-2
-    print-line-requires
-    add-t13
-    same-length-2
-    same-length-3
-    returns-2)
+    (tie.spec take-requires get-part-requires write-all-requires same-length same-length-2 returns)

@@ -1,19 +1,18 @@
 use Prim.Native.Nat.{_≤_, _-_}
 use mathlib.Core.Path.{_≡_, refl}
-use native.Mathlib.Omega.{arith}
 use lib.ListN.{length}
 use borrow.Author.Needs.{needs}
-use Rattle.script.proofs.take_chunk.Statement.{statement}
-use Rattle.script.proofs.take_chunk.Tie as tie
+use Rattle.script.proofs.take_part.Statement.{statement}
+use Rattle.script.proofs.take_part.Tie as tie
 
 abbrev Inv-loop : tie.InvT-loop
-Inv-loop held chunk line₀ out₀ at₀ line out at = (at .held ≤ length line₀) × (length line ≡ length line₀) × (length out ≡ length out₀)
+Inv-loop held part line₀ out₀ at₀ line out at = (at .held ≤ 801) × (length line ≡ 801) × (length out ≡ length out₀)
 
 abbrev μ-loop : tie.MeasureT-loop
-μ-loop held chunk line₀ out₀ at₀ line out at = length chunk - at .next
+μ-loop held part line₀ out₀ at₀ line out at = length part - at .next
 
 loop-holds : tie.Need-loop-holds Inv-loop μ-loop
-loop-holds c = (search needs, refl, refl)
+loop-holds c = search needs
 
 take-line-requires : tie.Need-take-line-requires Inv-loop μ-loop
 take-line-requires c κs = search needs
@@ -33,8 +32,8 @@ same-length-2 c = search needs
 returns : tie.Need-returns Inv-loop μ-loop
 returns c = search needs
 
-pub take-chunk-spec : {M : Type 1} → statement M
-take-chunk-spec =
+pub take-part-spec : {M : Type 1} → statement M
+take-part-spec =
     tie.close
     (tie.spec
     Inv-loop
