@@ -1,6 +1,6 @@
 -- Laws of the answer's lines, and of what the mapper answers. Assumes nothing.
 use Prim.Native.Nat.{ℕ, _+_, _*_, _≤_, _<_}
-use mathlib.Core.Path.{_≡_, refl, sym, ap, _∙_}
+use mathlib.Core.Path.{_≡_, refl, sym, ap}
 use mathlib.Core.Bool.{Bool, true, false, cond}
 use mathlib.Core.List.{List, [], _∷_, _++_, append-assoc}
 use native.Mathlib.Omega.{arith}
@@ -18,7 +18,6 @@ use Rattle.epmd.specs.declared.requests.Refusal.the-variants.{OutputTooShort, N
 use Rattle.epmd.specs.declared.requests.Request.{Request}
 use Rattle.epmd.specs.declared.requests.Request.the-variants.{Alive2, PortPlease2, Names}
 use Rattle.epmd.specs.declared.requests.Request.the-variants as asked
-use Rattle.epmd.specs.declared.serve.Answer.{Answer}
 use Rattle.epmd.specs.declared.serve.Answer.the-variants.{Written, Refused}
 use Rattle.epmd.specs.Registry.{filled}
 use Rattle.epmd.specs.Messages.{alive2Req}

@@ -1,19 +1,18 @@
 -- Laws of lines. Assumes nothing.
-use Prim.Native.Nat.{ℕ, zero, suc, _+_, _-_, _≤_, _<_}
-use mathlib.Core.Path.{_≡_, refl, sym, ap, _∙_}
+use Prim.Native.Nat.{ℕ, suc, _+_, _≤_, _<_}
+use mathlib.Core.Path.{_≡_, sym, ap, _∙_}
 use mathlib.Core.Bool.{Bool, true, false, cond}
-use mathlib.Core.List.{List, [], _∷_, _++_}
+use mathlib.Core.List.{List, [], _∷_}
 use native.Mathlib.Numerals.{add-one}
 use native.Mathlib.Omega.{arith}
 use lib.ListN.{length, getD, take, drop, length-take, drop-of-length-le}
 use lib.Seq.{drop-cons}
-use lib.Dec.{eqb, leb, ltb}
+use lib.Dec.{eqb, leb}
 use borrow.Author.Tests.{eq-eqb, ne-eqb, lt-ltb, le-ltb, le-leb, lt-leb}
 use Rattle.wire.specs.Decimal.{value}
 use Rattle.wire.specs.Run.{sameBytes}
 use Rattle.wire.proofs.RunLaws.{same-decides, same-length-ne}
-use Rattle.script_lines.specs.declared.line.Item.{Item}
-use Rattle.script_lines.specs.declared.line.Item.the-variants.{Op, Conn, Hex, Malformed}
+use Rattle.script_lines.specs.declared.line.Item.the-variants.{Op, Conn, Malformed}
 use Rattle.script_lines.specs.Text.{allDigits, leadsZero, isDecimal}
 use Rattle.script_lines.specs.Line.{opReq, connKey, hexKey, startsWith, connItem, hexItem, itemOf}
 use Rattle.script_lines.specs.Lines.{upTo}

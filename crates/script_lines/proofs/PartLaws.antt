@@ -1,23 +1,23 @@
 -- An input that comes in parts prints what the whole prints. Assumes nothing.
-use Prim.Native.Nat.{ℕ, zero, suc, _+_, _-_, _≤_, _<_}
-use mathlib.Core.Path.{_≡_, refl, sym, ap, ap₂, _∙_}
+use Prim.Native.Nat.{ℕ, zero, suc, _≤_, _<_}
+use mathlib.Core.Path.{_≡_, refl, sym, ap, _∙_}
 use mathlib.Core.Bool.{Bool, true, false, cond}
 use mathlib.Core.List.{List, [], _∷_, _++_, append-assoc, append-nil}
 use native.Mathlib.Omega.{arith}
-use lib.ListN.{length, take, drop, length-append, length-take}
-use lib.Seq.{take-all, take-append-le, take-take}
+use lib.ListN.{length, take, drop, length-take}
+use lib.Seq.{take-all}
 use lib.Dec.{eqb, ltb}
-use borrow.Author.Tests.{ltb-true, ltb-false, eqb-true, eqb-false, eq-eqb, ne-eqb}
+use borrow.Author.Tests.{ltb-true, ltb-false, ne-eqb}
 use Rattle.script_lines.specs.declared.line.Item.the-variants.{Malformed}
 use Rattle.script_lines.specs.declared.script.Awaits.{Awaits}
 use Rattle.script_lines.specs.declared.script.Awaits.the-variants.{Operation, Connection, Frame, Nothing}
 use Rattle.script_lines.specs.declared.script.Script.{Script}
 use Rattle.script_lines.specs.Line.{itemOf}
-use Rattle.script_lines.specs.Script.{Outcome, planOf, outcomeOf, lineOf, endOf}
+use Rattle.script_lines.specs.Script.{Outcome, planOf, outcomeOf, lineOf}
 use Rattle.script_lines.specs.Lines.{upTo, linesFrom, printedFrom, kept, takeOf}
 use Rattle.script_lines.specs.Claims.{toPrint, PartsPrint}
-use Rattle.script_lines.proofs.LineLaws.{item-long, up-within}
-use Rattle.script_lines.proofs.TakeLaws.{take-line, take-part, up-all}
+use Rattle.script_lines.proofs.LineLaws.{item-long}
+use Rattle.script_lines.proofs.TakeLaws.{take-line, take-part}
 
 -- ---- the first 801 characters of a line decide
 

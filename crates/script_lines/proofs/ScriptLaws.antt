@@ -23,7 +23,7 @@ use Rattle.script_lines.specs.declared.line.Item.the-variants.{Op, Conn,
 use Rattle.script_lines.specs.declared.script.Awaits.{Awaits}
 use Rattle.script_lines.specs.declared.script.Awaits.the-variants.{Operation, Connection, Frame, Nothing}
 use Rattle.script_lines.specs.declared.script.Plan.{Plan}
-use Rattle.script_lines.specs.declared.script.Plan.the-variants.{Await, Serve, Fail, Rest}
+use Rattle.script_lines.specs.declared.script.Plan.the-variants.{Serve}
 use Rattle.script_lines.specs.declared.script.Script.{Script}
 use Rattle.script_lines.specs.declared.script.Stepped.{Stepped}
 use Rattle.script_lines.specs.Text.{isHex, isDecimal}

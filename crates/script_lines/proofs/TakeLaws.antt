@@ -1,8 +1,8 @@
 -- Laws of an input that comes in parts. Assumes nothing.
-use Prim.Native.Nat.{ℕ, zero, suc, _+_, _-_, _≤_, _<_}
+use Prim.Native.Nat.{ℕ, suc, _+_, _-_, _≤_, _<_}
 use mathlib.Core.Path.{_≡_, refl, sym, ap, _∙_}
 use mathlib.Core.Bool.{Bool, true, false, cond}
-use mathlib.Core.List.{List, [], _∷_, _++_, append-assoc, append-nil}
+use mathlib.Core.List.{List, [], _∷_, _++_, append-assoc}
 use native.Mathlib.Omega.{arith}
 use lib.ListN.{length, take, drop, length-append, length-take, length-drop}
 use lib.Seq.{take-at, take-all, take-append-add, length-take-le}
@@ -13,7 +13,6 @@ use Rattle.wire.specs.Run.{part}
 use Rattle.script_lines.specs.declared.script.Script.{Script}
 use Rattle.script_lines.specs.Script.{lineOf}
 use Rattle.script_lines.specs.Lines.{upTo, kept, takeOf}
-use Rattle.script_lines.proofs.LineLaws.{up-within}
 
 -- the characters before a newline are the first ones
 pub up-front : (xs : List ℕ) → take (length (upTo xs)) xs ≡ upTo xs

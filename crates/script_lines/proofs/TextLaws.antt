@@ -1,15 +1,15 @@
 -- Laws of hexadecimal and decimal text. Assumes nothing.
 use Prim.Native.Nat.{ℕ, zero, suc, _+_, _*_, _-_, _/_, _%_, _≤_, _<_}
 use mathlib.Core.Path.{_≡_, refl, sym, ap, ap₂, _∙_}
-use mathlib.Core.Bool.{Bool, true, false, cond, _&&_}
+use mathlib.Core.Bool.{Bool, true, false, _&&_}
 use mathlib.Core.List.{List, [], _∷_, _++_, append-assoc, append-nil}
 use native.Mathlib.Numerals.{add-one}
 use native.Mathlib.Omega.{arith}
-use lib.ListN.{length, getD, set, take, drop, length-set, length-append, length-take, drop-of-length-le, take-append-drop}
-use lib.Seq.{drop-cons, take-suc, take-all, take-suc-set, drop-set-lt, length-take-le, drop-drop}
+use lib.ListN.{length, getD, set, take, drop, drop-of-length-le, take-append-drop}
+use lib.Seq.{drop-cons, take-suc, take-suc-set, length-take-le}
 use lib.Dec.{eqb, leb, ltb}
 use borrow.Author.Tests.{lt-ltb, le-ltb, ltb-true, ltb-false, le-leb, lt-leb, leb-true, leb-false, eqb-true}
-use Rattle.wire.specs.Decimal.{valueFrom, value}
+use Rattle.wire.specs.Decimal.{valueFrom}
 use Rattle.wire.specs.Output.{overwrite, written}
 use Rattle.wire.proofs.RunLaws.{and-left, and-right}
 use Rattle.wire.proofs.OutputLaws.{overwrite-join}

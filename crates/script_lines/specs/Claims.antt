@@ -1,5 +1,5 @@
 -- What is proved of the definitions themselves, beside the contracts that cite them. Each claim names the law in proofs/ that is its proof.
-use Prim.Native.Nat.{ℕ, _^_, _≤_, _<_}
+use Prim.Native.Nat.{ℕ, _^_, _<_}
 use mathlib.Core.Path.{_≡_}
 use mathlib.Core.Bool.{true}
 use mathlib.Core.List.{List, [], _∷_, _++_}

@@ -1,4 +1,4 @@
-use mathlib.Core.Path.{_≡_, sym, _∙_}
+use mathlib.Core.Path.{sym, _∙_}
 use borrow.Author.Tests.{not-true, not-false}
 use Rattle.script_lines.proofs.LineLaws.{conn-empty, conn-other, conn-leads, conn-digits}
 use borrow.Author.Needs.{needs}

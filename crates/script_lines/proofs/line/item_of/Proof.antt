@@ -1,8 +1,5 @@
-use Prim.Native.Nat.{_≤_}
-use mathlib.Core.Path.{_≡_, sym, ap, _∙_}
-use mathlib.Core.List.{List}
+use mathlib.Core.Path.{sym, ap, _∙_}
 use native.Mathlib.Omega.{arith}
-use lib.ListN.{length, drop}
 use Rattle.wire.proofs.RunLaws.{rest}
 use Rattle.script_lines.specs.Line.{connKey, hexKey, connItem, hexItem}
 use Rattle.script_lines.proofs.LineLaws.{starts-fits, item-long, item-op, item-conn, item-hex, item-other}

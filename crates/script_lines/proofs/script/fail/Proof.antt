@@ -1,4 +1,3 @@
-use mathlib.Core.Path.{_≡_, refl, ap}
 use native.Mathlib.Omega.{arith}
 use Rattle.script_lines.specs.declared.script.Awaits.the-variants.{Nothing}
 use Rattle.script_lines.proofs.AnswerLaws.{refusal-fits}

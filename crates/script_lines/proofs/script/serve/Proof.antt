@@ -1,7 +1,7 @@
 -- `script_lines::script::serve` meets its contract: the frame is what the text says, and the lines are those of the mapper's answer. Assumes nothing.
-use Prim.Native.Nat.{ℕ, _≤_}
-use mathlib.Core.Path.{_≡_, refl, sym, ap, _∙_}
-use mathlib.Core.List.{List, []}
+use Prim.Native.Nat.{ℕ}
+use mathlib.Core.Path.{_≡_, sym, ap, _∙_}
+use mathlib.Core.List.{List}
 use native.Mathlib.Omega.{arith}
 use lib.ListN.{length, take, replicate}
 use lib.Seq.{length-take-le}
@@ -9,8 +9,6 @@ use Rattle.wire.specs.Output.{written}
 use Rattle.epmd.specs.Serve.{requestOf}
 use Rattle.epmd.specs.Serve as mapper
 use Rattle.script_lines.specs.Text.{unhex}
-use Rattle.script_lines.specs.Answer.{answerText}
-use Rattle.script_lines.specs.Script.{answered}
 use Rattle.script_lines.proofs.AnswerLaws.{written-front, written-holds, answer-fits, refusal-fits, refusal-small}
 use Rattle.script_lines.proofs.ScriptLaws.{reply-holds, reply-text, refusal-text, step-told}
 use borrow.Author.Needs.{needs}

@@ -1,6 +1,5 @@
 use Rattle.script_lines.proofs.TextLaws.{value-below, value-numeral, value-between, value-letter, value-above}
 use mathlib.Core.Path.{sym}
-use native.Mathlib.Omega.{arith}
 use borrow.Author.Needs.{needs}
 use Rattle.script_lines.proofs.text.digit_value.Statement.{statement}
 use Rattle.script_lines.proofs.text.digit_value.Tie as tie

@@ -1,7 +1,5 @@
-use mathlib.Core.Path.{_≡_, refl, sym, ap, _∙_}
-use mathlib.Core.Bool.{true, false}
+use mathlib.Core.Path.{refl, sym, _∙_}
 use Rattle.wire.proofs.OutputLaws.{written-none}
-use Rattle.script_lines.specs.Script.{insideGroup, endOf}
 use Rattle.script_lines.proofs.ScriptLaws.{end-inside, end-outside}
 use borrow.Author.Needs.{needs}
 use Rattle.script_lines.proofs.script.Script.end.Statement.{statement}

@@ -1,13 +1,13 @@
-use Prim.Native.Nat.{ℕ, _≤_}
-use mathlib.Core.Path.{_≡_, refl, sym, ap, _∙_}
+use Prim.Native.Nat.{ℕ}
+use mathlib.Core.Path.{refl, sym, ap, _∙_}
 use mathlib.Core.List.{List}
 use native.Mathlib.Omega.{arith}
-use lib.ListN.{length, drop, length-drop}
+use lib.ListN.{length-drop}
 use Rattle.wire.specs.Output.{written}
 use Rattle.wire.proofs.RunLaws.{rest}
 use Rattle.wire.proofs.OutputLaws.{written-none}
 use Rattle.epmd.specs.Serve.{requestOf}
-use Rattle.script_lines.specs.Text.{isHex, unhex}
+use Rattle.script_lines.specs.Text.{unhex}
 use Rattle.script_lines.specs.Script.{told, answered}
 use Rattle.script_lines.proofs.ScriptLaws.{serve-line, line-plan}
 use borrow.Author.Needs.{needs}

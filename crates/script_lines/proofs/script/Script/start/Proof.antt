@@ -1,5 +1,3 @@
-use mathlib.Core.Path.{_≡_, ap}
-use Rattle.epmd.specs.declared.registry.Made.{Made}
 use Rattle.script_lines.specs.declared.script.Awaits.the-variants.{Operation}
 use Rattle.script_lines.specs.Script.{started}
 use borrow.Author.Needs.{needs}
