@@ -1,3 +1,4 @@
+-- The first bytes of the array that holds a name are the name's.
 use Rattle.handshake.proofs.MessageLaws.{held-taken, held-within}
 use Rattle.handshake.specs.Endpoint.{lowest}
 use lib.Seq.{length-take-le}
