@@ -1,3 +1,4 @@
+-- The invariant: what the search finds is i further on, in what is left from slot i on.
 use Rattle.handshake.proofs.SlotLaws.{noSlot, slots-long}
 use Rattle.handshake.specs.Endpoint.{sought}
 use Rattle.wire.proofs.LookupLaws.{first-skip, first-hit, first-end}
