@@ -13,6 +13,13 @@ use handshake::Making;
 use handshake::Stage;
 use libc::STDIN_FILENO;
 use libc::STDOUT_FILENO;
+use read::byte;
+use read::num16;
+use read::num32;
+use read::num64;
+use read::part;
+
+mod read;
 
 struct Pair {
     one: Endpoint,
@@ -21,46 +28,6 @@ struct Pair {
 
 fn wide(b: u8) -> u64 {
     b as u64
-}
-
-// What stands at an offset; 0 past the end.
-fn byte(s: &[u8], at: usize) -> u8 {
-    if at < s.len() { s[at] } else { 0 }
-}
-
-fn part(s: &[u8], at: usize, n: usize) -> &[u8] {
-    if s.len() < at {
-        return &s[..0];
-    }
-    if s.len() - at < n {
-        return &s[at..];
-    }
-    let e = at + n;
-    &s[at..e]
-}
-
-fn num16(s: &[u8], at: usize) -> u16 {
-    let p = part(s, at, 2);
-    if p.len() < 2 {
-        return 0;
-    }
-    wire::get16(p, 0)
-}
-
-fn num32(s: &[u8], at: usize) -> u32 {
-    let p = part(s, at, 4);
-    if p.len() < 4 {
-        return 0;
-    }
-    wire::get32(p, 0)
-}
-
-fn num64(s: &[u8], at: usize) -> u64 {
-    let p = part(s, at, 8);
-    if p.len() < 8 {
-        return 0;
-    }
-    wire::get64(p, 0)
 }
 
 fn word(text: &[u8]) {
