@@ -87,6 +87,93 @@ static inline bks_registration bks_registry_entry(const bks_registry *r, uint32_
 static inline uint32_t bks_registry_next(const bks_registry *r) { return bks_registry_next_value(*r); }
 static inline uint16_t bks_registry_port(const bks_registry *r) { return bks_registry_port_value(*r); }
 
+/* ---- the handshake */
+
+typedef struct { alignas(8) uint8_t opaque[9232]; } bks_endpoint;
+
+/* A slot's stage. */
+enum {
+    BKS_FREE = 0,
+    BKS_AWAITS_NAME = 1,
+    BKS_AWAITS_ALIVE = 2,
+    BKS_AWAITS_REPLY = 3,
+    BKS_AWAITS_STATUS = 4,
+    BKS_AWAITS_CHALLENGE = 5,
+    BKS_AWAITS_ACK = 6,
+    BKS_CONNECTED = 7
+};
+
+typedef struct { uint32_t refusal; uint32_t slot; size_t written; } bks_started;
+typedef struct { uint32_t refusal; uint32_t slot; } bks_arrived;
+
+/* stage is the slot's new one; freed is another slot that the message freed, or 32. Beside a refusal they are 0 and 32. */
+typedef struct { uint32_t refusal; size_t written; uint32_t stage; uint32_t freed; } bks_answered;
+
+/* A slot's record: what is not yet recorded, and all of a free slot, is zero. The bytes behind the name's length are zero. */
+typedef struct {
+    uint32_t stage;
+    uint32_t creation;
+    uint32_t challenge;
+    uint64_t flags;
+    uint8_t name_len;
+    uint8_t name[255];
+} bks_slot;
+
+typedef struct { bks_endpoint endpoint; uint32_t refusal; } bks_endpoint_made;
+typedef struct { bks_endpoint endpoint; uint32_t refusal; uint32_t stage; size_t slot; size_t freed; size_t written; } bks_endpoint_told;
+
+bks_endpoint_made bks_endpoint_new_value(const uint8_t *name, size_t name_len, uint64_t flags, uint32_t creation);
+bks_endpoint_told bks_endpoint_start_value(bks_endpoint e, const uint8_t *name, size_t name_len, uint8_t *out, size_t out_len);
+bks_endpoint_told bks_endpoint_arrive_value(bks_endpoint e);
+bks_endpoint_told bks_endpoint_close_value(bks_endpoint e, uint32_t slot);
+bks_endpoint_told bks_endpoint_message_value(bks_endpoint e, uint32_t slot, const uint8_t *frame, size_t frame_len, uint32_t challenge,
+                                             const uint8_t *own, size_t own_len, const uint8_t *standard, size_t standard_len,
+                                             uint8_t *out, size_t out_len);
+bks_slot bks_endpoint_slot_value(bks_endpoint e, uint32_t slot);
+
+/* Makes an endpoint; 6 for a bad name, then 9 for bad flags, and then no endpoint is made. */
+static inline uint32_t bks_endpoint_new(bks_endpoint *e, const uint8_t *name, size_t name_len, uint64_t flags, uint32_t creation) {
+    bks_endpoint_made m = bks_endpoint_new_value(name, name_len, flags, creation);
+    if (m.refusal == 0) *e = m.endpoint;
+    return m.refusal;
+}
+
+/* Starts towards a full name: takes the lowest free slot and writes the name message. */
+static inline bks_started bks_endpoint_start(bks_endpoint *e, const uint8_t *name, size_t name_len, uint8_t *out, size_t out_len) {
+    bks_endpoint_told t = bks_endpoint_start_value(*e, name, name_len, out, out_len);
+    *e = t.endpoint;
+    return (bks_started){ t.refusal, (uint32_t)t.slot, t.written };
+}
+
+/* A connection has come in: takes the lowest free slot. */
+static inline bks_arrived bks_endpoint_arrive(bks_endpoint *e) {
+    bks_endpoint_told t = bks_endpoint_arrive_value(*e);
+    *e = t.endpoint;
+    return (bks_arrived){ t.refusal, (uint32_t)t.slot };
+}
+
+/* Frees a taken slot: to be called when its connection has ended. */
+static inline uint32_t bks_endpoint_close(bks_endpoint *e, uint32_t slot) {
+    bks_endpoint_told t = bks_endpoint_close_value(*e, slot);
+    *e = t.endpoint;
+    return t.refusal;
+}
+
+/*
+ * One frame on a slot. The challenge has to be fresh and not to be guessed; it is used where the answer holds a challenge of ours. The
+ * cookie is the peer's own where that has any bytes, and the standard one otherwise.
+ */
+static inline bks_answered bks_endpoint_message(bks_endpoint *e, uint32_t slot, const uint8_t *frame, size_t frame_len, uint32_t challenge,
+                                                const uint8_t *own, size_t own_len, const uint8_t *standard, size_t standard_len,
+                                                uint8_t *out, size_t out_len) {
+    bks_endpoint_told t = bks_endpoint_message_value(*e, slot, frame, frame_len, challenge, own, own_len, standard, standard_len, out, out_len);
+    *e = t.endpoint;
+    return (bks_answered){ t.refusal, t.written, t.stage, (uint32_t)t.freed };
+}
+
+/* A slot's record; from 32 on that of a free one. */
+static inline bks_slot bks_endpoint_slot(const bks_endpoint *e, uint32_t slot) { return bks_endpoint_slot_value(*e, slot); }
+
 /* ---- MD5 and names */
 
 void bks_md5(const uint8_t *text, size_t len, uint8_t digest[16]);

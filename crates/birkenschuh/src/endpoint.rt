@@ -87,7 +87,7 @@ fn tell(refusal: u32, stage: u32, slot: usize, freed: usize, written: usize) -> 
     }
 }
 
-fn numbers(a: Answer) -> Numbers
+fn numbers_of(a: Answer) -> Numbers
     ensures { λ r. ⌜ r ≡ numbersOf a ⌝ }
 {
     match a {
@@ -108,7 +108,7 @@ fn told(t: Told) -> EndpointTold
 {
     let endpoint = t.endpoint;
     let answer = t.answer;
-    let n = numbers(answer);
+    let n = numbers_of(answer);
     EndpointTold {
         endpoint,
         numbers: n,
