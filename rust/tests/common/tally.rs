@@ -40,4 +40,11 @@ impl Tally {
         let missing: Vec<&str> = missing.iter().map(AsRef::as_ref).collect();
         assert!(missing.is_empty(), "never reached: {missing:?}");
     }
+
+    pub fn assert_nothing_but<'a>(&self, whats: impl IntoIterator<Item = &'a str>) {
+        let whats: Vec<&str> = whats.into_iter().collect();
+        let others = self.0.keys().filter(|seen| !whats.contains(&seen.as_str()));
+        let others: Vec<&String> = others.collect();
+        assert!(others.is_empty(), "not to be reached: {others:?}");
+    }
 }
