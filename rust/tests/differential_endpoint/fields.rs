@@ -6,7 +6,7 @@ use crate::common::rng::Rng;
 pub fn good_flags(rng: &mut Rng) -> u64 {
     match rng.below(3) {
         0 => GOOD_FLAGS,
-        1 => u64::MAX & !(1 << 33),
+        1 => !(1 << 33),
         _ => (rng.next() | GOOD_FLAGS) & !(1 << 33),
     }
 }

@@ -195,8 +195,8 @@ impl Generator {
                 };
                 name_message(flags, creation, &name)
             }
-            Stage::AwaitsAlive => return status(*rng.pick(&ALIVE_ANSWERS)),
-            Stage::AwaitsStatus => return status(*rng.pick(&WORDS)),
+            Stage::AwaitsAlive => return status(word(rng, &ALIVE_ANSWERS)),
+            Stage::AwaitsStatus => return status(word(rng, &WORDS)),
             Stage::AwaitsChallenge => {
                 let name = if rng.chance(95) {
                     at.name.to_vec()
@@ -253,6 +253,10 @@ impl Generator {
             _ => (Vec::new(), usual),
         }
     }
+}
+
+fn word<'a>(rng: &mut Rng, words: &[&'a [u8]]) -> &'a [u8] {
+    words[rng.below(words.len())]
 }
 
 /// The slots that are neither free nor connected.
