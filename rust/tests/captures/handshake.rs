@@ -90,28 +90,23 @@ fn our_frames_are_those_of_real_nodes() {
         "hs_03_hidden_b_to_a",
         "hs_04_wrong_cookie",
     ] {
-        let only = |kind| seen(file, kind).remove(0);
-        let (name, status, challenge) = (only("send_name"), only("status"), only("send_challenge"));
-        let reply = only("challenge_reply");
+        let [name, status, challenge, reply] =
+            ["send_name", "status", "send_challenge", "challenge_reply"]
+                .map(|kind| seen(file, kind).remove(0));
         let (mut from_a, mut from_b) = ([0; ENDPOINT_OUTPUT], [0; ENDPOINT_OUTPUT]);
-        let endpoint = |seen: &Seen| {
-            Endpoint::new(seen.name(), seen.flags(), seen.number("creation")).unwrap()
-        };
-        let (mut a, mut b) = (endpoint(&challenge), endpoint(&name));
+        let (mut a, mut b) = (endpoint_of(&challenge), endpoint_of(&name));
 
         let written = b.start(challenge.name(), &mut from_b).unwrap().written;
         assert_eq!(from_b[..written], name.frame);
-        let at_a = a.arrive().unwrap();
+        a.arrive().unwrap();
         let lent = challenge.number("challenge");
         let answer = a
-            .message(at_a, &name.frame, lent, COOKIES, &mut from_a)
+            .message(0, &name.frame, lent, COOKIES, &mut from_a)
             .unwrap();
-        assert_eq!(
-            from_a[..answer.written],
-            [status.frame, challenge.frame.clone()].concat()
-        );
+        let expected = [&status.frame[..], &challenge.frame].concat();
+        assert_eq!(from_a[..answer.written], expected);
 
-        b.message(0, b"\x00\x03sok", 0, COOKIES, &mut from_b)
+        b.message(0, &status.frame, 0, COOKIES, &mut from_b)
             .unwrap();
         let lent = reply.number("challenge");
         let answer = b
@@ -120,12 +115,17 @@ fn our_frames_are_those_of_real_nodes() {
         assert_eq!(answer.written, reply.frame.len());
         assert_eq!(from_b[..7], reply.frame[..7]);
         let answer = a
-            .message(at_a, &from_b[..answer.written], 0, COOKIES, &mut from_a)
+            .message(0, &from_b[..answer.written], 0, COOKIES, &mut from_a)
             .unwrap();
         assert_eq!(answer.stage, Stage::Connected);
-        let ack = seen(file, "challenge_ack");
-        assert!(ack.iter().all(|ack| ack.frame[..3] == from_a[..3]));
+        let acks = seen(file, "challenge_ack");
+        assert!(acks.iter().all(|ack| ack.frame[..3] == from_a[..3]));
     }
+}
+
+/// An endpoint with the name, flags and creation of a node that was seen.
+fn endpoint_of(seen: &Seen) -> Endpoint {
+    Endpoint::new(seen.name(), seen.flags(), seen.number("creation")).unwrap()
 }
 
 /// The real digests are MD5 of cookie and challenge, in this order, where the capture says so. The

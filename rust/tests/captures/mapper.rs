@@ -3,63 +3,78 @@
 use birkenschuh::{Refusal, Registry, REGISTRY_OUTPUT};
 
 use crate::common::from_hex;
+use crate::common::tally::Tally;
 use crate::text;
+
+/// A request with what the real mapper replied, or the end of a node.
+enum Event {
+    Request {
+        connection: u32,
+        request: Vec<u8>,
+        reply: Vec<u8>,
+    },
+    FirstNodeStops,
+}
+
+fn events() -> Vec<Event> {
+    let text = text("epmd_01_real_nodes");
+    let mut events = Vec::new();
+    let mut connection = 0;
+    for line in text.lines() {
+        if let Some(port) = line.strip_prefix("# connection from client port ") {
+            connection = port.parse().unwrap();
+        } else if line.starts_with("# -- node a stopped") {
+            events.push(Event::FirstNodeStops);
+        } else if let Some(hex) = line.strip_prefix("> ") {
+            let (request, reply) = (from_hex(hex).unwrap(), Vec::new());
+            events.push(Event::Request {
+                connection,
+                request,
+                reply,
+            });
+        } else if let (Some(hex), Some(Event::Request { reply, .. })) =
+            (line.strip_prefix("< "), events.last_mut())
+        {
+            reply.extend(from_hex(hex).unwrap());
+        }
+    }
+    events
+}
 
 /// Real nodes and tools at the mapper: each request is answered, with the bytes of the real mapper
 /// where 01 says no other.
 #[test]
 fn requests_of_real_nodes_are_answered() {
-    let text = text("epmd_01_real_nodes");
     let mut registry = Registry::new(14_369, 1).unwrap();
-    let (mut connection, mut creation, mut counts) = (0, 0, [0; 4]);
-    let mut lines = text.lines().peekable();
-    while let Some(line) = lines.next() {
-        if let Some(port) = line.strip_prefix("# connection from client port ") {
-            connection = port.parse().unwrap();
-        }
-        if line.starts_with("# -- node a stopped") {
-            assert!(
-                registry.close(36_632),
-                "the connection of a, which came first"
-            );
-        }
-        let Some(request) = line.strip_prefix("> ") else {
+    let (mut creation, mut tally) = (0u32, Tally::default());
+    for event in events() {
+        let Event::Request {
+            connection,
+            request,
+            reply,
+        } = event
+        else {
+            assert!(registry.close(36_632), "the connection of the first block");
             continue;
         };
-        let request = from_hex(request).unwrap();
-        let mut real = Vec::new();
-        while let Some(next) = lines.next_if(|next| !next.contains("FIN")) {
-            real.extend(
-                next.strip_prefix("< ")
-                    .map_or(Vec::new(), |hex| from_hex(hex).unwrap()),
-            );
-        }
         let mut out = [0; REGISTRY_OUTPUT];
         let answer = registry.request(connection, &request, &mut out);
         let ours = answer.map(|written| &out[..written]);
+        tally.count(format!("tag {}", request[2]));
         match request[2] {
             120 => {
-                let fails = real[1] == 1;
+                let fails = reply[1] == 1;
                 creation += u32::from(!fails);
                 let told = if fails { 0 } else { creation };
-                assert_eq!(ours.unwrap(), [&real[..2], &told.to_be_bytes()].concat());
-                counts[0] += 1;
+                assert_eq!(ours.unwrap(), [&reply[..2], &told.to_be_bytes()].concat());
             }
-            122 => {
-                assert_eq!(ours.unwrap(), real);
-                counts[1] += 1;
-            }
-            110 => {
-                assert_eq!(sorted_lines(ours.unwrap()), sorted_lines(&real));
-                counts[2] += 1;
-            }
-            _ => {
-                assert_eq!(ours, Err(Refusal::NotServed));
-                counts[3] += 1;
-            }
+            122 => assert_eq!(ours.unwrap(), reply),
+            110 => assert_eq!(sorted_lines(ours.unwrap()), sorted_lines(&reply)),
+            _ => assert_eq!(ours, Err(Refusal::NotServed)),
         }
     }
-    assert_eq!(counts, [4, 3, 3, 2], "ALIVE2, PORT_PLEASE2, NAMES, DUMP");
+    let times = [120, 122, 110, 100].map(|tag| tally.times(&format!("tag {tag}")));
+    assert_eq!(times, [4, 3, 3, 2]);
 }
 
 /// A NAMES reply as a set: the real mapper has the newest name first.

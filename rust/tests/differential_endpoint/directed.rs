@@ -129,42 +129,42 @@ fn names() {
     assert_eq!(tally.times("new, safe: refusal 6"), 2 * broken);
 }
 
-/// A cookie is needed at three stages only; outputs and slots at their borders.
-#[test]
-fn cookies_rooms_and_slots() {
+/// For each stage, the message that moves it on with each of the edits.
+fn edits(edit: impl Fn(&Call) -> Vec<Call>) -> Vec<Vec<Call>> {
     let mut lists = Vec::new();
     for stage in OPEN {
         let (before, slot) = reach(stage);
-        let last = message(slot, good(stage));
-        let mut tries = Vec::new();
-        for (own, standard) in [
-            (0, 0),
-            (0, 1),
-            (0, 255),
-            (0, 256),
-            (1, 0),
-            (255, 256),
-            (256, 1),
-            (256, 256),
-        ] {
-            tries.push(edited(&last, |message| {
-                (message.own, message.standard) = (vec![b'c'; own], vec![b'd'; standard]);
-            }));
-        }
-        for room in [0, 1, 294, 299, 300, 301] {
-            tries.push(edited(&last, |message| message.room = room));
-        }
-        for slot in [31, 32, 33, 256, u32::MAX as usize] {
-            tries.push(edited(&last, |message| message.slot = slot));
-            tries.push(Call::Close { slot });
-        }
+        let tries = edit(&message(slot, good(stage)));
         lists.extend(
             tries
                 .into_iter()
                 .map(|last| [before.clone(), vec![last]].concat()),
         );
     }
-    let tally = run(lists);
+    lists
+}
+
+/// A cookie is needed at three stages only.
+#[test]
+fn cookies() {
+    let lengths = [
+        (0, 0),
+        (0, 1),
+        (0, 255),
+        (0, 256),
+        (1, 0),
+        (255, 256),
+        (256, 1),
+        (256, 256),
+    ];
+    let tally = run(edits(|last| {
+        let of = |(own, standard)| {
+            edited(last, |message| {
+                (message.own, message.standard) = (vec![b'c'; own], vec![b'd'; standard]);
+            })
+        };
+        lengths.into_iter().map(of).collect()
+    }));
     for stage in OPEN {
         let needs = matches!(
             stage,
@@ -172,8 +172,30 @@ fn cookies_rooms_and_slots() {
         );
         let refused = if needs { 2 * 4 } else { 0 };
         assert_eq!(tally.times(&format!("{stage:?}: refusal 11")), refused);
+    }
+}
+
+/// Outputs around the stated room, and slots that there are none of or that are free.
+#[test]
+fn rooms_and_slots() {
+    let rooms = [0, 1, 294, 299, 300, 301];
+    let tally = run(edits(|last| {
+        rooms
+            .map(|room| edited(last, |message| message.room = room))
+            .to_vec()
+    }));
+    for stage in OPEN {
         assert_eq!(tally.times(&format!("{stage:?}: refusal 1")), 2 * 4);
     }
+    let slots = [31, 32, 33, 256, u32::MAX as usize];
+    let tally = run(edits(|last| {
+        let messages = slots.map(|slot| edited(last, |message| message.slot = slot));
+        [
+            messages.to_vec(),
+            slots.map(|slot| Call::Close { slot }).to_vec(),
+        ]
+        .concat()
+    }));
     assert_eq!(tally.times("Free: refusal 2"), 2 * 6 * 5);
     assert_eq!(tally.times("close: refusal 2"), 2 * 6 * 5);
 }

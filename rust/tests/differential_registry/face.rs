@@ -2,7 +2,7 @@
 
 use std::mem::MaybeUninit;
 
-use birkenschuh::ffi::{self, bks_registry};
+use birkenschuh::ffi::{self, bks_registration, bks_registry};
 use birkenschuh::{Registration, Registry};
 
 pub enum Face {
@@ -65,47 +65,14 @@ impl Face {
         }
     }
 
-    /// On the raw side, what lies behind a length must be zero, and all of a free place.
     pub fn entry(&self, place: usize) -> Option<Registration> {
-        let state = match self {
-            Face::Safe(registry) => return registry.entry(place),
-            Face::Raw(state) => &**state,
-        };
-        // SAFETY: the state is a registry.
-        let entry = unsafe { ffi::bks_registry_entry(state, place as u32) };
-        let (name, behind_name) = entry.name.split_at(usize::from(entry.name_len));
-        let (extra, behind_extra) = entry.extra.split_at(usize::from(entry.extra_len));
-        assert!(behind_name
-            .iter()
-            .chain(behind_extra)
-            .all(|byte| *byte == 0));
-        let registration = Registration {
-            connection: entry.connection,
-            creation: entry.creation,
-            port: entry.port,
-            kind: entry.kind,
-            protocol: entry.protocol,
-            highest: entry.highest,
-            lowest: entry.lowest,
-            name: name.to_vec(),
-            extra: extra.to_vec(),
-        };
-        if entry.name_len > 0 {
-            return Some(registration);
+        match self {
+            Face::Safe(registry) => registry.entry(place),
+            // SAFETY: the state is a registry.
+            Face::Raw(state) => {
+                raw_entry(unsafe { ffi::bks_registry_entry(&**state, place as u32) })
+            }
         }
-        let free = Registration {
-            name: vec![],
-            extra: vec![],
-            connection: 0,
-            creation: 0,
-            port: 0,
-            kind: 0,
-            protocol: 0,
-            highest: 0,
-            lowest: 0,
-        };
-        assert_eq!(registration, free, "a free place is all zero");
-        None
     }
 
     pub fn next_creation(&self) -> u32 {
@@ -123,4 +90,32 @@ impl Face {
             Face::Raw(state) => unsafe { ffi::bks_registry_port(&**state) },
         }
     }
+}
+
+/// What lies behind a length must be zero, and all of a free place.
+fn raw_entry(entry: bks_registration) -> Option<Registration> {
+    let (name, behind_name) = entry.name.split_at(usize::from(entry.name_len));
+    let (extra, behind_extra) = entry.extra.split_at(usize::from(entry.extra_len));
+    assert!(behind_name
+        .iter()
+        .chain(behind_extra)
+        .all(|byte| *byte == 0));
+    if name.is_empty() {
+        let numbers = [entry.connection, entry.creation];
+        let shorts = [entry.port, entry.highest, entry.lowest];
+        let bytes = [entry.kind, entry.protocol, entry.extra_len];
+        assert_eq!((numbers, shorts, bytes), ([0; 2], [0; 3], [0; 3]));
+        return None;
+    }
+    Some(Registration {
+        connection: entry.connection,
+        creation: entry.creation,
+        port: entry.port,
+        kind: entry.kind,
+        protocol: entry.protocol,
+        highest: entry.highest,
+        lowest: entry.lowest,
+        name: name.to_vec(),
+        extra: extra.to_vec(),
+    })
 }
