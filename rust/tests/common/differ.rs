@@ -51,25 +51,27 @@ pub fn report<C: Compared>(seed: u64, calls: Vec<C::Call>) -> ! {
     panic!(
         "seed {seed}: {found}\n\
          shortened: {still}\n\
-         To run it again, put these lines into a file and name it in BIRKENSCHUH_REPLAY:\n{lines}"
+         To run it again, put these lines into a file, name the file in BIRKENSCHUH_REPLAY, and run \
+         the test `replay` beside this one:\n{lines}"
     );
 }
 
-/// Runs the calls of the file that `BIRKENSCHUH_REPLAY` names, if it does.
-pub fn replay<C: Compared>() {
-    let Ok(path) = std::env::var("BIRKENSCHUH_REPLAY") else {
-        return;
+/// Runs the calls of the file that `BIRKENSCHUH_REPLAY` names, or else those given.
+pub fn replay<C: Compared>(given: &str) {
+    let text = match std::env::var("BIRKENSCHUH_REPLAY") {
+        Ok(path) => {
+            std::fs::read_to_string(&path).unwrap_or_else(|error| panic!("{path}: {error}"))
+        }
+        Err(_) => given.to_string(),
     };
-    let text = std::fs::read_to_string(&path).unwrap_or_else(|error| panic!("{path}: {error}"));
-    let calls: Vec<C::Call> = text
-        .lines()
-        .map(|line| {
-            line.parse()
-                .unwrap_or_else(|error| panic!("{line}: {error}"))
-        })
-        .collect();
+    let call = |line: &str| {
+        line.parse()
+            .unwrap_or_else(|error| panic!("{line}: {error}"))
+    };
+    let calls: Vec<C::Call> = text.lines().map(call).collect();
+    assert!(!calls.is_empty(), "no calls to run");
     if let Some(found) = difference::<C>(&calls) {
-        panic!("{path}: {found}");
+        panic!("{found}\n{text}");
     }
 }
 

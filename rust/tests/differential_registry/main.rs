@@ -11,7 +11,7 @@ mod generate;
 mod pair;
 
 use calls::Call;
-use common::differ::{replay, report, Compared};
+use common::differ::{report, Compared};
 use common::rng::{rounds, seed, Rng};
 use common::tally::Tally;
 use generate::Generator;
@@ -49,7 +49,7 @@ const EXPECTED: [&str; 22] = [
 fn sequence(seed: u64, tally: &mut Tally) {
     let mut rng = Rng(seed);
     let generator = Generator::new(&mut rng);
-    let length = *rng.pick(&[5, 30, 200, 600]);
+    let length = *rng.pick(&[5, 30, 200, 600, 600, 4000]);
     let mut pair = Pair::default();
     let mut calls: Vec<Call> = Vec::with_capacity(length);
     let mut was_full = false;
@@ -85,8 +85,9 @@ fn random_sequences() {
     tally.assert_seen(EXPECTED);
 }
 
-/// Runs the calls of the file that the variable `BIRKENSCHUH_REPLAY` names.
+/// Runs the calls of the file that the variable `BIRKENSCHUH_REPLAY` names, or else a short sequence
+/// that shows what such a file looks like.
 #[test]
-fn replay_of_a_file() {
-    replay::<Pair>();
+fn replay() {
+    common::differ::replay::<Pair>(include_str!("replay.txt"));
 }
