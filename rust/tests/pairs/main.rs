@@ -99,6 +99,9 @@ impl Search {
             outcome = ["end: connected by a", "end: connected by b"][link.starter];
         }
         self.tally.count(outcome);
+        if world.links.len() == 2 {
+            self.tally.count(format!("two started, {outcome}"));
+        }
     }
 }
 
@@ -146,8 +149,9 @@ fn simultaneous_starts() {
         "sent nok",
         "AwaitsStatus: refusal 16",
     ]);
-    tally.assert_seen(["end: connected by a", "end: connected by b"]);
+    tally.assert_seen(["end: connected by a", "two started, end: connected by b"]);
     tally.assert_seen(["start refused: the peer has a slot"]);
+    assert_eq!(tally.times("two started, end: connected by a"), 0);
     assert_eq!(tally.times("end: not connected"), 0);
 }
 
