@@ -119,10 +119,8 @@ impl Face {
                 state, slot, frame, frame_len, challenge, own, own_len, standard, standard_len, out, out_len,
             )
         };
-        assert!(
-            told.refusal == 0 || told.written == 0,
-            "a refused call writes nothing"
-        );
+        let is_nothing = (told.written, told.stage, told.freed) == (0, 0, 32);
+        assert!(told.refusal == 0 || is_nothing, "told beside a refusal");
         unless(told.refusal, told).map(|told| Answered {
             stage: Stage::ALL[told.stage as usize],
             freed: (told.freed as usize != SLOTS).then_some(told.freed as usize),
