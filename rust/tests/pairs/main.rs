@@ -232,3 +232,20 @@ fn cuts_and_closes() {
         tally.assert_seen(["end: not connected"]);
     }
 }
+
+/// A start more, a close, a cut and a wrong cookie, all in one run and wherever they come.
+#[test]
+fn everything() {
+    for starts in [[2, 1], [1, 2]] {
+        let left = Left {
+            starts,
+            closes: 1,
+            cuts: 1,
+            wrong_cookies: 1,
+        };
+        let tally = search("everything", left, SAME);
+        tally.assert_seen(["AwaitsAlive: refusal 3", "AwaitsAlive: refusal 14"]);
+        tally.assert_seen(["AwaitsReply: refusal 15", "AwaitsAck: refusal 15"]);
+        tally.assert_seen(["end: connected by a", "end: connected by b"]);
+    }
+}
