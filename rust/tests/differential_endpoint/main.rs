@@ -4,13 +4,14 @@
 #[path = "../common/mod.rs"]
 mod common;
 
+mod borders;
 mod calls;
-mod directed;
 mod face;
 mod fields;
 mod generate;
 mod pair;
 mod reach;
+mod rules;
 
 use calls::Call;
 use common::differ::{report, Compared};
