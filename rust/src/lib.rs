@@ -1,0 +1,60 @@
+//! The Erlang port mapper (EPMD) and the Erlang distribution handshake (version 6) for Rust hosts:
+//! a safe wrapper around the proved library `libbirkenschuh.a`.
+//!
+//! - [`Registry`] answers requests to the port mapper.
+//! - [`Endpoint`] runs handshakes, as initiator and as acceptor.
+//! - [`md5`] and [`is_node_name`] are the parts below them that a host may want too.
+//!
+//! The library owns no socket, clock or random number. The host passes in whole frames (with their
+//! two length bytes), connection numbers, challenges and cookies, and lends the output. A call that
+//! is refused ([`Refusal`]) writes no output; any other call tells how many bytes it wrote, from the
+//! first on, and leaves the bytes behind them as they were.
+//!
+//! ```
+//! use birkenschuh::{Registry, REGISTRY_OUTPUT};
+//!
+//! let mut registry = Registry::new(4369, 1)?;
+//! let mut out = [0; REGISTRY_OUTPUT];
+//! let written = registry.request(9, b"\x00\x01n", &mut out)?;
+//! assert_eq!(out[..written], 4369u32.to_be_bytes()); // no names yet: the port alone
+//! # Ok::<(), birkenschuh::Refusal>(())
+//! ```
+
+#![warn(missing_docs)]
+
+mod endpoint;
+pub mod ffi;
+mod refusal;
+mod registry;
+mod slot;
+
+pub use endpoint::{Answered, Cookies, Endpoint, Started, ENDPOINT_OUTPUT, SLOTS};
+pub use refusal::Refusal;
+pub use registry::{Registration, Registry, PLACES, REGISTRY_OUTPUT};
+pub use slot::{Slot, Stage};
+
+/// The MD5 digest of any text (RFC 1321).
+///
+/// ```
+/// let digest = birkenschuh::md5(b"abc");
+/// assert_eq!(digest[..4], [0x90, 0x01, 0x50, 0x98]);
+/// ```
+pub fn md5(text: &[u8]) -> [u8; 16] {
+    let mut digest = [0; 16];
+    // SAFETY: `text` is readable for its length and `digest` has the sixteen bytes that are written.
+    unsafe { ffi::bks_md5(text.as_ptr(), text.len(), digest.as_mut_ptr()) };
+    digest
+}
+
+/// Whether the port mapper takes `name`: 1 to 255 bytes of well-formed UTF-8 (RFC 3629) without a
+/// zero byte and without "@".
+///
+/// ```
+/// assert!(birkenschuh::is_node_name("fähre".as_bytes()));
+/// assert!(!birkenschuh::is_node_name(b"ride@host"));
+/// assert!(!birkenschuh::is_node_name(b""));
+/// ```
+pub fn is_node_name(name: &[u8]) -> bool {
+    // SAFETY: `name` is readable for its length.
+    unsafe { ffi::bks_node_name_ok(name.as_ptr(), name.len()) }
+}
