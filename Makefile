@@ -20,7 +20,7 @@ $(LIB): $(RATTLE)
 
 # The wrapper's tests, and the library against an implementation of its own: some millions of calls.
 check-host: lib
-	cd rust && $(CARGO) test --release
+	cd rust && $(CARGO) test --release --workspace --exclude bench
 
 # One table: ours beside a peer, same input, same run (docs/PERFORMANCE.md).
 bench: lib
