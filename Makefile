@@ -18,8 +18,10 @@ $(LIB): $(RATTLE)
 	wait $$pid || { tail -40 target/staticlib.log; exit 1; }
 	@touch $@
 
-# The wrapper's tests, and the library against an implementation of its own: some millions of calls.
+# The header from C; the wrapper's tests; the library against an implementation of its own, some millions of calls.
 check-host: lib
+	cc -std=c11 -O2 -Wall -Wextra -Werror -Iinclude include/tests/header.c $(LIB) -o target/header
+	target/header
 	cd rust && $(CARGO) test --release --workspace --exclude bench
 
 # One table: ours beside a peer, same input, same run (docs/PERFORMANCE.md).
