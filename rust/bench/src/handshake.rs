@@ -60,11 +60,11 @@ pub fn handshake() {
         &mut [
             Contender {
                 name: "ours",
-                run: &mut || black_box(handshake!(birkenschuh, a, b, to_b, to_a)),
+                run: &mut || handshake!(birkenschuh, a, b, to_b, to_a),
             },
             Contender {
                 name: "independent implementation",
-                run: &mut || black_box(handshake!(model, c, d, to_d, to_c)),
+                run: &mut || handshake!(model, c, d, to_d, to_c),
             },
             Contender {
                 name: "nine memcpy of the state, 9,232 bytes",
