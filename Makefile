@@ -4,7 +4,12 @@ HEADER := include/birkenschuh.h
 RATTLE := $(shell find crates -type f \( -path '*/src/*' -o -path '*/specs/*' -o -path '*/proofs/*' \)) crates.txt
 CARGO := cargo --quiet
 
-.PHONY: lib check-host bench
+.PHONY: check lib check-host bench
+
+# Every crate proved and every program run (not the edits that must be refused: those are the gate's), then the tests from outside.
+check:
+	rt check
+	$(MAKE) check-host
 
 # Proves the crates below the library and builds it; nothing is done where nothing changed.
 lib: $(LIB)
