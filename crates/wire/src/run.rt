@@ -34,7 +34,30 @@ pub fn put_bytes(out: &mut [u8], at: usize, src: &[u8])
     }
 }
 
-// Whether two runs are equal.
+// Whether two runs of one length are equal. Every byte is looked at, whatever it holds, so the time
+// this takes tells nothing of where they differ, and the compiler can take many bytes at once.
+fn same_throughout(a: &[u8], b: &[u8]) -> bool
+    requires { ⌜ length (now a) ≡ length (now b) ⌝ }
+    ensures { λ r. ⌜ r ≡ sameBytes (now (a .entry)) (now (b .entry)) ⌝ }
+{
+    let mut diff: u8 = 0;
+    let mut i: usize = 0;
+    while i < a.len() {
+        diff = diff | (a[i] ^ b[i]);
+        i += 1;
+    }
+    diff == 0
+}
+
+// Whether two digests are equal, in a time that tells nothing of where they differ.
+pub fn same16(a: &[u8], b: &[u8]) -> bool
+    requires { ⌜ (length (now a) ≡ 16) × (length (now b) ≡ 16) ⌝ }
+    ensures { λ r. ⌜ r ≡ sameBytes (now (a .entry)) (now (b .entry)) ⌝ }
+{
+    same_throughout(a, b)
+}
+
+// Whether two runs are equal: sixteen bytes at a time, up to the first sixteen that differ.
 pub fn same_bytes(a: &[u8], b: &[u8]) -> bool
     ensures { λ r. ⌜ r ≡ sameBytes (now (a .entry)) (now (b .entry)) ⌝ }
 {
@@ -42,28 +65,13 @@ pub fn same_bytes(a: &[u8], b: &[u8]) -> bool
         return false;
     }
     let mut i = 0;
-    while i < a.len() {
-        if a[i] != b[i] {
+    while 16 <= a.len() - i {
+        if !same16(get_part(a, i, 16), get_part(b, i, 16)) {
             return false;
         }
-        i += 1;
+        i += 16;
     }
-    true
-}
-
-// Whether two digests are equal. All sixteen bytes are looked at, whatever they hold, so that the
-// time it takes tells nothing of where they differ.
-pub fn same16(a: &[u8], b: &[u8]) -> bool
-    requires { ⌜ (length (now a) ≡ 16) × (length (now b) ≡ 16) ⌝ }
-    ensures { λ r. ⌜ r ≡ sameBytes (now (a .entry)) (now (b .entry)) ⌝ }
-{
-    let mut diff: u8 = 0;
-    let mut i: usize = 0;
-    while i < 16 {
-        diff = diff | (a[i] ^ b[i]);
-        i += 1;
-    }
-    diff == 0
+    same_throughout(&a[i..], &b[i..])
 }
 
 pub fn compare(a: &[u8], b: &[u8]) -> Order
