@@ -1,0 +1,121 @@
+//! One connection: what it has sent, what it has not yet taken of its reply, and what it has registered.
+
+use std::io::{self, Write};
+use std::net::{SocketAddr, TcpStream};
+use std::time::Instant;
+
+use birkenschuh::{Refusal, Registration};
+
+use crate::input::{Budget, Input};
+use crate::sys::{ENDED, READABLE, WRITABLE};
+
+pub struct Connection {
+    pub stream: TcpStream,
+    pub peer: SocketAddr,
+    /// Counts connections from the start of the program, for the log.
+    pub number: u64,
+    /// The number by which the registry knows this connection: unlike `number` it never grows past what a registry
+    /// can tell apart, and it is given anew only when this connection has been closed there.
+    pub slot: u32,
+    pub input: Input,
+    /// The rest of a reply. While there is any, nothing is read, so a peer cannot pile up replies.
+    unsent: Vec<u8>,
+    /// Closed as soon as nothing is unsent.
+    pub closes: bool,
+    pub node: Option<Registration>,
+    /// When it is closed, unless it has registered a node.
+    pub deadline: Instant,
+    /// What it waits for in the poll, nothing if it is not there.
+    pub waits_for: u32,
+}
+
+/// Why a connection was closed.
+#[derive(Debug)]
+pub enum Why {
+    Answered,
+    Ended,
+    Failed(io::Error),
+    Refused(Refusal),
+    TimedOut,
+    NoMemory,
+}
+
+impl Connection {
+    pub fn new(
+        stream: TcpStream,
+        peer: SocketAddr,
+        number: u64,
+        slot: u32,
+        deadline: Instant,
+    ) -> Connection {
+        Connection {
+            stream,
+            peer,
+            number,
+            slot,
+            input: Input::default(),
+            unsent: Vec::new(),
+            closes: false,
+            node: None,
+            deadline,
+            waits_for: 0,
+        }
+    }
+
+    /// Sends a reply in one write, as nodes expect it; what the peer has no room for is kept.
+    pub fn send(&mut self, reply: &[u8], budget: &mut Budget) -> Result<(), Why> {
+        let sent = write(&mut self.stream, reply)?;
+        let rest = &reply[sent..];
+        if !budget.take(rest.len()) {
+            return Err(Why::NoMemory);
+        }
+        self.unsent = rest.to_vec();
+        Ok(())
+    }
+
+    /// Sends what there is room for of the rest.
+    pub fn send_rest(&mut self, budget: &mut Budget) -> Result<(), Why> {
+        let sent = write(&mut self.stream, &self.unsent)?;
+        self.unsent.drain(..sent);
+        budget.give_back(sent);
+        Ok(())
+    }
+
+    pub fn all_sent(&self) -> bool {
+        self.unsent.is_empty()
+    }
+
+    /// What it has of the budget.
+    pub fn borrowed(&self) -> usize {
+        self.input.borrowed() + self.unsent.len()
+    }
+
+    /// What the poll has to tell of it. A peer that reads nothing may end all the same, and that end is the node's.
+    pub fn interest(&self) -> u32 {
+        match (self.all_sent(), &self.node) {
+            (true, _) => READABLE,
+            (false, None) => WRITABLE,
+            (false, Some(_)) => WRITABLE | ENDED,
+        }
+    }
+
+    /// What it was doing, for the log of a timeout.
+    pub fn state(&self) -> &'static str {
+        match (self.all_sent(), self.input.is_empty()) {
+            (false, _) => "reply not read",
+            (true, false) => "frame not complete",
+            (true, true) => "no request",
+        }
+    }
+}
+
+/// One write; a peer without room takes 0 bytes.
+fn write(stream: &mut TcpStream, bytes: &[u8]) -> Result<usize, Why> {
+    loop {
+        match stream.write(bytes) {
+            Err(error) if error.kind() == io::ErrorKind::Interrupted => {}
+            Err(error) if error.kind() == io::ErrorKind::WouldBlock => return Ok(0),
+            result => return result.map_err(Why::Failed),
+        }
+    }
+}

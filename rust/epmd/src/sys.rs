@@ -1,0 +1,164 @@
+//! What the standard library lacks of the operating system: epoll, signals as a descriptor, two socket settings. The
+//! only unsafe code of this program. The constants and layouts are those of Linux on x86-64, as the library below is.
+
+use std::fs::File;
+use std::io::{self, Read};
+use std::mem::MaybeUninit;
+use std::net::{TcpListener, TcpStream};
+use std::os::fd::{AsRawFd, FromRawFd, OwnedFd};
+use std::os::raw::{c_int, c_void};
+use std::time::Duration;
+
+/// Bytes have come, or the peer has ended.
+pub const READABLE: u32 = 0x001;
+/// There is room for bytes to be sent.
+pub const WRITABLE: u32 = 0x004;
+/// The connection has failed. Always reported.
+pub const FAILED: u32 = 0x008;
+/// The peer will send nothing more.
+pub const ENDED: u32 = 0x2000;
+
+const CLOSE_ON_EXEC: c_int = 0o2_000_000;
+const NON_BLOCKING: c_int = 0o4_000;
+const ADD: c_int = 1;
+const CHANGE: c_int = 3;
+const SOL_SOCKET: c_int = 1;
+const SO_KEEPALIVE: c_int = 9;
+const SIG_BLOCK: c_int = 0;
+const SIGINT: c_int = 2;
+const SIGTERM: c_int = 15;
+
+/// A descriptor that is ready: for what, and the token that it was added with.
+#[derive(Clone, Copy)]
+#[repr(C, packed)]
+pub struct Event {
+    pub ready: u32,
+    pub token: u64,
+}
+
+/// glibc's `sigset_t`.
+#[repr(C)]
+struct SignalSet([u64; 16]);
+
+extern "C" {
+    fn epoll_create1(flags: c_int) -> c_int;
+    fn epoll_ctl(poll: c_int, operation: c_int, fd: c_int, event: *mut Event) -> c_int;
+    fn epoll_wait(poll: c_int, events: *mut Event, room: c_int, timeout: c_int) -> c_int;
+    fn sigemptyset(set: *mut SignalSet) -> c_int;
+    fn sigaddset(set: *mut SignalSet, signal: c_int) -> c_int;
+    fn sigprocmask(how: c_int, set: *const SignalSet, old: *mut SignalSet) -> c_int;
+    fn signalfd(fd: c_int, set: *const SignalSet, flags: c_int) -> c_int;
+    fn listen(fd: c_int, backlog: c_int) -> c_int;
+    fn setsockopt(fd: c_int, level: c_int, name: c_int, value: *const c_void, len: u32) -> c_int;
+}
+
+fn check(result: c_int) -> io::Result<c_int> {
+    match result {
+        -1 => Err(io::Error::last_os_error()),
+        result => Ok(result),
+    }
+}
+
+/// Tells which descriptors are ready, again and again for as long as they are (level-triggered).
+pub struct Poll(OwnedFd);
+
+impl Poll {
+    pub fn new() -> io::Result<Poll> {
+        // SAFETY: a new descriptor that nothing else owns.
+        Ok(Poll(unsafe {
+            OwnedFd::from_raw_fd(check(epoll_create1(CLOSE_ON_EXEC))?)
+        }))
+    }
+
+    /// From now on `token` tells that `fd` is ready for `interest`. Ends when `fd` is closed.
+    pub fn add(&self, fd: &impl AsRawFd, token: u64, interest: u32) -> io::Result<()> {
+        self.control(ADD, fd, token, interest)
+    }
+
+    pub fn change(&self, fd: &impl AsRawFd, token: u64, interest: u32) -> io::Result<()> {
+        self.control(CHANGE, fd, token, interest)
+    }
+
+    fn control(&self, how: c_int, fd: &impl AsRawFd, token: u64, ready: u32) -> io::Result<()> {
+        let mut event = Event { ready, token };
+        // SAFETY: the event is read during the call alone.
+        check(unsafe { epoll_ctl(self.0.as_raw_fd(), how, fd.as_raw_fd(), &mut event) }).map(drop)
+    }
+
+    /// Waits until something is ready, or `timeout` is over, or a signal came: then nothing is ready.
+    pub fn wait<'a>(
+        &self,
+        events: &'a mut [Event],
+        timeout: Option<Duration>,
+    ) -> io::Result<&'a [Event]> {
+        // Rounded up: a wait that ends a moment early would be followed by a turn for nothing.
+        let timeout = timeout.map_or(-1, |time| {
+            c_int::try_from(time.as_micros().div_ceil(1000)).unwrap_or(c_int::MAX)
+        });
+        let room = c_int::try_from(events.len()).unwrap_or(c_int::MAX);
+        // SAFETY: `events` has room for as many as are asked for.
+        match check(unsafe { epoll_wait(self.0.as_raw_fd(), events.as_mut_ptr(), room, timeout) }) {
+            Ok(count) => Ok(&events[..count as usize]),
+            Err(error) if error.kind() == io::ErrorKind::Interrupted => Ok(&[]),
+            Err(error) => Err(error),
+        }
+    }
+}
+
+/// SIGTERM and SIGINT as a descriptor, so that the wait for sockets sees them too and none is lost.
+pub struct Signals(File);
+
+impl Signals {
+    /// The signals no longer end the process.
+    pub fn new() -> io::Result<Signals> {
+        let mut set = MaybeUninit::<SignalSet>::uninit();
+        // SAFETY: sigemptyset fills the set before it is read; the descriptor is new and owned by nothing else.
+        unsafe {
+            check(sigemptyset(set.as_mut_ptr()))?;
+            check(sigaddset(set.as_mut_ptr(), SIGTERM))?;
+            check(sigaddset(set.as_mut_ptr(), SIGINT))?;
+            check(sigprocmask(SIG_BLOCK, set.as_ptr(), std::ptr::null_mut()))?;
+            let fd = check(signalfd(-1, set.as_ptr(), CLOSE_ON_EXEC | NON_BLOCKING))?;
+            Ok(Signals(File::from_raw_fd(fd)))
+        }
+    }
+
+    /// The name of the signal that came.
+    pub fn take(&mut self) -> Option<&'static str> {
+        let mut record = [0; 128];
+        self.0.read_exact(&mut record).ok()?;
+        match c_int::from_ne_bytes([record[0], record[1], record[2], record[3]]) {
+            SIGINT => Some("SIGINT"),
+            _ => Some("SIGTERM"),
+        }
+    }
+}
+
+impl AsRawFd for Signals {
+    fn as_raw_fd(&self) -> c_int {
+        self.0.as_raw_fd()
+    }
+}
+
+/// Lets more connections wait to be accepted than the 128 of the standard library: a burst above them would meet
+/// retries of a second. The system's own bound still holds.
+pub fn set_backlog(listener: &TcpListener, backlog: c_int) -> io::Result<()> {
+    // SAFETY: no memory is passed.
+    check(unsafe { listen(listener.as_raw_fd(), backlog) }).map(drop)
+}
+
+/// A peer whose machine has vanished is noticed, in hours, although nothing is sent to it.
+pub fn keep_alive(stream: &TcpStream) -> io::Result<()> {
+    let on: c_int = 1;
+    // SAFETY: the value is read during the call alone, with its own length.
+    check(unsafe {
+        setsockopt(
+            stream.as_raw_fd(),
+            SOL_SOCKET,
+            SO_KEEPALIVE,
+            (&raw const on).cast(),
+            size_of::<c_int>() as u32,
+        )
+    })
+    .map(drop)
+}
