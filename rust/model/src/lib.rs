@@ -1,1 +1,21 @@
-//! The mapper and the handshake of 01 in plain Rust, to compare with.
+//! The mapper and the handshake in plain Rust, written from 01 (the specification) and from nothing
+//! else, so that the proved library can be compared with a second reading of the same text.
+//!
+//! Names, calls and answers are those of the crate `birkenschuh`.
+
+#![warn(missing_docs)]
+
+mod bytes;
+mod endpoint;
+mod md5;
+mod refusal;
+mod registry;
+mod slot;
+mod steps;
+
+pub use bytes::Short;
+pub use endpoint::{digest, is_full_name, Answered, Cookies, Endpoint, Started, ENDPOINT_OUTPUT};
+pub use md5::md5;
+pub use refusal::Refusal;
+pub use registry::{is_node_name, Registration, Registry, REGISTRY_OUTPUT};
+pub use slot::{Slot, Stage};

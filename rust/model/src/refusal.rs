@@ -1,0 +1,32 @@
+//! 01's table of refusals.
+
+/// A refusal. The discriminant is its number in 01.
+#[derive(Clone, Copy, Debug, PartialEq, Eq)]
+#[repr(u32)]
+#[allow(missing_docs)] // 01's table has them.
+pub enum Refusal {
+    OutputTooShort = 1,
+    SlotNotTaken = 2,
+    NotAFrame = 3,
+    UnknownTag = 4,
+    BadLength = 5,
+    BadName = 6,
+    BadVersions = 7,
+    NotServed = 8,
+    BadFlags = 9,
+    AlreadyConnected = 10,
+    BadCookie = 11,
+    PeerTaken = 12,
+    NoFreeSlot = 13,
+    UnknownStatus = 14,
+    WrongDigest = 15,
+    Declined = 16,
+    ZeroCreation = 17,
+}
+
+impl Refusal {
+    /// The number in 01's table.
+    pub fn number(self) -> u32 {
+        self as u32
+    }
+}
