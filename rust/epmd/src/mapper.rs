@@ -5,7 +5,7 @@
 
 use std::time::{Duration, Instant};
 
-use birkenschuh::{Refusal, Registry, REGISTRY_OUTPUT};
+use birkenschuh::{Refusal, Registry, PLACES, REGISTRY_OUTPUT};
 
 use crate::connection::{Connection, Why};
 use crate::input::{Budget, Filled};
@@ -19,6 +19,8 @@ const ALIVE2_REQ: u8 = 120;
 
 pub struct Mapper {
     registry: Registry,
+    /// How many are registered.
+    nodes: usize,
     out: Box<[u8]>,
     budget: Budget,
     idle: Duration,
@@ -29,6 +31,7 @@ impl Mapper {
     pub fn new(registry: Registry, idle: Duration, log: Log) -> Mapper {
         Mapper {
             registry,
+            nodes: 0,
             out: vec![0; REGISTRY_OUTPUT].into(),
             budget: Budget::new(LARGE_BYTES),
             idle,
@@ -105,6 +108,7 @@ impl Mapper {
             .registry
             .registrations()
             .find(|node| node.connection == it.slot);
+        self.nodes += 1;
         self.say_node("registered", it, None);
     }
 
@@ -118,12 +122,13 @@ impl Mapper {
         }
         if it.node.is_some() {
             self.registry.close(it.slot);
+            self.nodes -= 1;
             self.say_node("left", it, Some(why));
         }
     }
 
     pub fn say_stopped(&self, signal: &str) {
-        let nodes = self.registry.registrations().count() as u64;
+        let nodes = self.nodes as u64;
         let fields = [
             ("signal", Value::Text(signal)),
             ("nodes", Value::Number(nodes)),
@@ -170,10 +175,10 @@ impl Mapper {
         let name = &frame[13..13 + len];
         let reason = if it.node.is_some() {
             "this connection has registered a node"
-        } else if self.registry.registrations().any(|node| node.name == name) {
+        } else if self.nodes < PLACES {
             "the name is registered"
         } else {
-            "all 64 places are taken"
+            "the name is registered, or all 64 places are taken"
         };
         let fields = [("name", Value::Name(name)), ("reason", Value::Text(reason))];
         self.say("not-registered", it, &fields);

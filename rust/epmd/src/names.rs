@@ -68,7 +68,7 @@ fn table(nodes: &[Node]) -> String {
     let names: Vec<String> = nodes.iter().map(|node| plain_text(&node.name)).collect();
     let longest = names.iter().map(|name| name.chars().count()).max();
     let width = longest.unwrap_or(0).max(4);
-    let mut text = format!("{:width$}  PORT\n", "NAME");
+    let mut text = format!("{:width$}   PORT\n", "NAME");
     for (name, node) in names.iter().zip(nodes) {
         text += &format!("{name:width$}  {:>5}\n", node.port);
     }
@@ -117,9 +117,9 @@ mod tests {
         let them = nodes(&[("ride", 4370), ("é\n", 9), ("fähre-12", 65535)]);
         assert_eq!(
             table(&them),
-            "NAME      PORT\nride       4370\n\"é\\n\"         9\nfähre-12  65535\n"
+            "NAME       PORT\nride       4370\n\"é\\n\"         9\nfähre-12  65535\n"
         );
-        assert_eq!(table(&[]), "NAME  PORT\n");
+        assert_eq!(table(&[]), "NAME   PORT\n");
     }
 
     #[test]

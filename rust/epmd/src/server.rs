@@ -17,6 +17,8 @@ use crate::table::Table;
 /// Accepted in a turn before the others are looked after again.
 const ACCEPTS: usize = 64;
 const BACKLOG: i32 = 4096;
+/// The longest reply has 17,604 bytes.
+const BUFFERS: i32 = 32 << 10;
 /// How long nothing is accepted once the system has no descriptor or memory left for a connection.
 const REST: Duration = Duration::from_millis(100);
 /// Tokens of the poll that are no connection's.
@@ -43,6 +45,7 @@ impl Server {
         let signals = Signals::new()?;
         let listener = TcpListener::bind((options.address, options.port))?;
         sys::set_backlog(&listener, BACKLOG)?;
+        sys::set_buffers(&listener, BUFFERS)?;
         listener.set_nonblocking(true)?;
         let address = listener.local_addr()?;
         let registry = Registry::new(address.port(), options.first_creation)

@@ -1,4 +1,4 @@
-//! What the standard library lacks of the operating system: epoll, signals as a descriptor, two socket settings. The
+//! What the standard library lacks of the operating system: epoll, signals as a descriptor, socket settings. The
 //! only unsafe code of this program. The constants and layouts are those of Linux on x86-64, as the library below is.
 
 use std::fs::File;
@@ -23,6 +23,8 @@ const NON_BLOCKING: c_int = 0o4_000;
 const ADD: c_int = 1;
 const CHANGE: c_int = 3;
 const SOL_SOCKET: c_int = 1;
+const SO_SNDBUF: c_int = 7;
+const SO_RCVBUF: c_int = 8;
 const SO_KEEPALIVE: c_int = 9;
 const SIG_BLOCK: c_int = 0;
 const SIGINT: c_int = 2;
@@ -147,18 +149,21 @@ pub fn set_backlog(listener: &TcpListener, backlog: c_int) -> io::Result<()> {
     check(unsafe { listen(listener.as_raw_fd(), backlog) }).map(drop)
 }
 
+/// Bounds what the system holds for each connection that is accepted here, both ways. Beyond these
+/// a peer that does not read is held back, and not the memory of this machine.
+pub fn set_buffers(listener: &TcpListener, bytes: c_int) -> io::Result<()> {
+    set_option(listener, SO_SNDBUF, bytes)?;
+    set_option(listener, SO_RCVBUF, bytes)
+}
+
 /// A peer whose machine has vanished is noticed, in hours, although nothing is sent to it.
 pub fn keep_alive(stream: &TcpStream) -> io::Result<()> {
-    let on: c_int = 1;
+    set_option(stream, SO_KEEPALIVE, 1)
+}
+
+fn set_option(socket: &impl AsRawFd, option: c_int, value: c_int) -> io::Result<()> {
+    let length = size_of::<c_int>() as u32;
+    let value = (&raw const value).cast();
     // SAFETY: the value is read during the call alone, with its own length.
-    check(unsafe {
-        setsockopt(
-            stream.as_raw_fd(),
-            SOL_SOCKET,
-            SO_KEEPALIVE,
-            (&raw const on).cast(),
-            size_of::<c_int>() as u32,
-        )
-    })
-    .map(drop)
+    check(unsafe { setsockopt(socket.as_raw_fd(), SOL_SOCKET, option, value, length) }).map(drop)
 }
