@@ -99,6 +99,14 @@ impl Connection {
         }
     }
 
+    /// Whether there is nothing left to read but the end.
+    pub fn has_ended(&self) -> bool {
+        match self.stream.peek(&mut [0]) {
+            Ok(count) => count == 0,
+            Err(error) => error.kind() != io::ErrorKind::WouldBlock,
+        }
+    }
+
     /// What it was doing, for the log of a timeout.
     pub fn state(&self) -> &'static str {
         match (self.all_sent(), self.input.is_empty()) {

@@ -17,6 +17,15 @@ const LARGE_BYTES: usize = 4 << 20;
 
 const ALIVE2_REQ: u8 = 120;
 
+/// What a connection needs.
+#[derive(Debug, PartialEq, Eq)]
+pub enum Next {
+    Wait,
+    /// A registration found no place. A node that ended before may still hold it: once those are
+    /// closed, `answer_all` has the last word.
+    SeekEnded,
+}
+
 pub struct Mapper {
     registry: Registry,
     /// How many are registered.
@@ -44,13 +53,13 @@ impl Mapper {
         now + self.idle
     }
 
-    /// The connection is ready: sends or reads once, and answers what is complete. An error says why it is to be
-    /// closed.
-    pub fn attend(&mut self, it: &mut Connection, ready: u32, now: Instant) -> Result<(), Why> {
+    /// The connection is ready: sends or reads once, and answers what is complete. An error says why
+    /// it is to be closed.
+    pub fn attend(&mut self, it: &mut Connection, ready: u32, now: Instant) -> Result<Next, Why> {
         if it.all_sent() {
             match it.input.fill(&mut it.stream, &mut self.budget) {
                 Ok(Filled::Some) => {}
-                Ok(Filled::Nothing) => return Ok(()),
+                Ok(Filled::Nothing) => return Ok(Next::Wait),
                 Ok(Filled::End) => return Err(Why::Ended),
                 Ok(Filled::NoMemory) => return Err(Why::NoMemory),
                 Err(error) => return Err(Why::Failed(error)),
@@ -61,44 +70,41 @@ impl Mapper {
             }
             it.send_rest(&mut self.budget)?;
         }
-        self.answer_all(it, now)
+        self.answer_all(it, now, false)
     }
 
-    /// Answers the frames that are whole, as long as their replies are taken.
-    fn answer_all(&mut self, it: &mut Connection, now: Instant) -> Result<(), Why> {
-        while it.all_sent() {
-            if it.closes {
-                return Err(Why::Answered);
-            }
-            if it.input.frame().is_none() {
-                return Ok(());
-            }
-            self.answer(it)
+    /// Answers the frames that are whole, as long as their replies are taken. `sure`: no node's end
+    /// has come unseen.
+    pub fn answer_all(
+        &mut self,
+        it: &mut Connection,
+        now: Instant,
+        sure: bool,
+    ) -> Result<Next, Why> {
+        while it.all_sent() && !it.closes {
+            let Some(frame) = it.input.frame() else {
+                return Ok(Next::Wait);
+            };
+            let written = self
+                .registry
+                .request(it.slot, frame, &mut self.out)
+                .map_err(Why::Refused)
                 .inspect_err(|why| self.say_refused(it, why))?;
+            match (frame[2], self.out[1]) {
+                (ALIVE2_REQ, 0) => self.registered(it),
+                (ALIVE2_REQ, _) if it.node.is_none() && !sure => return Ok(Next::SeekEnded),
+                (ALIVE2_REQ, _) => self.say_not_registered(it),
+                // The reply of every other request is the connection's last.
+                _ => it.closes = true,
+            }
+            it.send(&self.out[..written], &mut self.budget)?;
             it.input.drop_frame(&mut self.budget);
             it.deadline = self.deadline(now);
         }
-        Ok(())
-    }
-
-    /// Answers the frame at the front. Every reply but that of ALIVE2 is the connection's last.
-    fn answer(&mut self, it: &mut Connection) -> Result<(), Why> {
-        let Some(frame) = it.input.frame() else {
-            return Ok(());
-        };
-        let written = self
-            .registry
-            .request(it.slot, frame, &mut self.out)
-            .map_err(Why::Refused)?;
-        if frame[2] == ALIVE2_REQ {
-            match self.out[1] {
-                0 => self.registered(it),
-                _ => self.say_not_registered(it),
-            }
-        } else {
-            it.closes = true;
+        match it.all_sent() {
+            true => Err(Why::Answered),
+            false => Ok(Next::Wait),
         }
-        it.send(&self.out[..written], &mut self.budget)
     }
 
     fn registered(&mut self, it: &mut Connection) {

@@ -9,7 +9,7 @@ use birkenschuh::Registry;
 use crate::connection::Why;
 use crate::limiter::Limiter;
 use crate::log::{Log, Value};
-use crate::mapper::Mapper;
+use crate::mapper::{Mapper, Next};
 use crate::options::Options;
 use crate::sys::{self, Event, Poll, Signals, READABLE};
 use crate::table::Table;
@@ -111,17 +111,25 @@ impl Server {
         let Some(it) = self.connections.get(token) else {
             return;
         };
-        let outcome = self.mapper.attend(it, ready, now);
+        let mut outcome = self.mapper.attend(it, ready, now);
+        if let Ok(Next::SeekEnded) = outcome {
+            for ended in self.connections.ended_nodes() {
+                self.close(ended, &Why::Ended);
+            }
+            if let Some(it) = self.connections.get(token) {
+                outcome = self.mapper.answer_all(it, now, true);
+            }
+        }
         self.settle(token, outcome);
     }
 
     /// Waits for what the connection needs next, or closes it.
-    fn settle(&mut self, token: u64, outcome: Result<(), Why>) {
+    fn settle(&mut self, token: u64, outcome: Result<Next, Why>) {
         let Some(it) = self.connections.get(token) else {
             return;
         };
         let interest = it.interest();
-        let outcome = outcome.and_then(|()| {
+        let outcome = outcome.and_then(|_| {
             match it.waits_for {
                 same if same == interest => Ok(()),
                 0 => self.poll.add(&it.stream, token, interest),

@@ -67,6 +67,12 @@ impl Table {
         self.mortal().map(|it| it.deadline).min()
     }
 
+    /// Nodes whose connection has ended, told of by the poll or not.
+    pub fn ended_nodes(&self) -> Vec<u64> {
+        let nodes = self.slots.iter().flatten().filter(|it| it.node.is_some());
+        nodes.filter(|it| it.has_ended()).map(token).collect()
+    }
+
     fn mortal(&self) -> impl Iterator<Item = &Connection> {
         self.slots.iter().flatten().filter(|it| it.node.is_none())
     }
