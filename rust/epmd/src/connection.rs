@@ -1,13 +1,13 @@
 //! One connection: what it has sent, what it has not yet taken of its reply, and what it has registered.
 
 use std::io::{self, Write};
-use std::net::{SocketAddr, TcpStream};
+use std::net::{Shutdown, SocketAddr, TcpStream};
 use std::time::Instant;
 
 use birkenschuh::{Refusal, Registration};
 
 use crate::input::{Budget, Input};
-use crate::sys::{ENDED, READABLE, WRITABLE};
+use crate::sys::{self, ENDED, READABLE, WRITABLE};
 
 pub struct Connection {
     pub stream: TcpStream,
@@ -64,7 +64,10 @@ impl Connection {
 
     /// Sends a reply in one write, as nodes expect it; what the peer has no room for is kept.
     pub fn send(&mut self, reply: &[u8], budget: &mut Budget) -> Result<(), Why> {
-        let sent = write(&mut self.stream, reply)?;
+        let sent = match self.closes {
+            true => written(sys::send_last(&self.stream, reply))?,
+            false => written(self.stream.write(reply))?,
+        };
         let rest = &reply[sent..];
         if !budget.take(rest.len()) {
             return Err(Why::NoMemory);
@@ -75,10 +78,16 @@ impl Connection {
 
     /// Sends what there is room for of the rest.
     pub fn send_rest(&mut self, budget: &mut Budget) -> Result<(), Why> {
-        let sent = write(&mut self.stream, &self.unsent)?;
+        let sent = written(self.stream.write(&self.unsent))?;
         self.unsent.drain(..sent);
         budget.give_back(sent);
         Ok(())
+    }
+
+    /// Ends the stream behind what was sent. Without this, a peer that has sent more than was read
+    /// would lose the reply, since a socket closed with bytes unread drops what waits to be sent.
+    pub fn finish(&self) {
+        let _ = self.stream.shutdown(Shutdown::Write);
     }
 
     pub fn all_sent(&self) -> bool {
@@ -117,13 +126,13 @@ impl Connection {
     }
 }
 
-/// One write; a peer without room takes 0 bytes.
-fn write(stream: &mut TcpStream, bytes: &[u8]) -> Result<usize, Why> {
-    loop {
-        match stream.write(bytes) {
-            Err(error) if error.kind() == io::ErrorKind::Interrupted => {}
-            Err(error) if error.kind() == io::ErrorKind::WouldBlock => return Ok(0),
-            result => return result.map_err(Why::Failed),
-        }
+/// How much was written; a peer without room takes 0 bytes.
+fn written(result: io::Result<usize>) -> Result<usize, Why> {
+    match result {
+        Ok(count) => Ok(count),
+        Err(error) => match error.kind() {
+            io::ErrorKind::WouldBlock | io::ErrorKind::Interrupted => Ok(0),
+            _ => Err(Why::Failed(error)),
+        },
     }
 }

@@ -122,6 +122,7 @@ impl Mapper {
     pub fn closed(&mut self, it: &Connection, why: &Why) {
         self.budget.give_back(it.borrowed());
         match why {
+            Why::Answered => it.finish(),
             Why::TimedOut => self.say("timed-out", it, &[("state", Value::Text(it.state()))]),
             Why::NoMemory => self.say("memory-spent", it, &[("state", Value::Text(it.state()))]),
             _ => {}

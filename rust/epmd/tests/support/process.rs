@@ -1,7 +1,7 @@
 //! Processes that end with the test that started them, each by its own id.
 
 use std::fs;
-use std::io::{BufRead, BufReader, Read};
+use std::io::{BufRead, BufReader, Read, Write};
 use std::net::{Ipv4Addr, TcpListener, TcpStream};
 use std::process::{Child, Command, ExitStatus, Output, Stdio};
 use std::sync::{Arc, Mutex};
@@ -11,7 +11,7 @@ use super::client::eventually;
 
 const BIRKEN_EPMD: &str = env!("CARGO_BIN_EXE_birken-epmd");
 
-/// A running program whose lines on standard output are gathered.
+/// A running program whose lines, of both its outputs, are gathered.
 pub struct Process {
     child: Child,
     lines: Arc<Mutex<Vec<String>>>,
@@ -20,20 +20,21 @@ pub struct Process {
 impl Process {
     pub fn start(command: &mut Command) -> Process {
         let mut child = command
-            .stdin(Stdio::null())
+            .stdin(Stdio::piped())
             .stdout(Stdio::piped())
-            .stderr(Stdio::null())
+            .stderr(Stdio::piped())
             .spawn()
             .unwrap_or_else(|error| panic!("{command:?}: {error}"));
-        let lines = Arc::new(Mutex::new(Vec::new()));
-        let out = BufReader::new(child.stdout.take().expect("a pipe"));
-        let gathered = Arc::clone(&lines);
-        thread::spawn(move || {
-            for line in out.lines().map_while(Result::ok) {
-                gathered.lock().expect("lines").push(line);
-            }
-        });
+        let lines = Arc::default();
+        gather(child.stdout.take().expect("a pipe"), &lines);
+        gather(child.stderr.take().expect("a pipe"), &lines);
         Process { child, lines }
+    }
+
+    /// Writes a line to the program, whose input ends with the test.
+    pub fn write_line(&mut self, line: &str) {
+        let input = self.child.stdin.as_mut().expect("a pipe");
+        writeln!(input, "{line}").expect("a line");
     }
 
     pub fn id(&self) -> u32 {
@@ -78,6 +79,12 @@ impl Process {
         number.and_then(|text| text.parse().ok()).expect(key)
     }
 
+    pub fn open_files(&self) -> usize {
+        fs::read_dir(format!("/proc/{}/fd", self.id()))
+            .expect("fd")
+            .count()
+    }
+
     /// Processor time so far, in hundredths of a second.
     pub fn processor_time(&self) -> u64 {
         let stat = fs::read_to_string(format!("/proc/{}/stat", self.id())).expect("stat");
@@ -86,6 +93,15 @@ impl Process {
         let number = |at: usize| fields[at].parse::<u64>().expect("a number");
         number(11) + number(12)
     }
+}
+
+fn gather(pipe: impl Read + Send + 'static, lines: &Arc<Mutex<Vec<String>>>) {
+    let lines = Arc::clone(lines);
+    thread::spawn(move || {
+        for line in BufReader::new(pipe).lines().map_while(Result::ok) {
+            lines.lock().expect("lines").push(line);
+        }
+    });
 }
 
 impl Drop for Process {
