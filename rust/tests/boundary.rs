@@ -1,0 +1,192 @@
+//! The boundary itself: the sizes of the opaque structs, null pointers, and numbers that the
+//! wrapper has to narrow.
+
+mod common;
+
+use std::ptr::{null, null_mut};
+
+use birkenschuh::ffi::{self, bks_registry};
+use birkenschuh::{Cookies, Endpoint, Refusal, Registry, Slot, ENDPOINT_OUTPUT, REGISTRY_OUTPUT};
+use common::frames::{Alive2, GOOD_FLAGS};
+
+/// A registry made in memory of the host's choosing.
+fn raw_registry() -> Box<bks_registry> {
+    let mut state = Box::<bks_registry>::new_uninit();
+    // SAFETY: the call writes the state, which the assertion sees.
+    unsafe {
+        assert_eq!(ffi::bks_registry_new(state.as_mut_ptr(), 4369, 4), 0);
+        state.assume_init()
+    }
+}
+
+/// Null with length 0 is an empty run, wherever a run is lent.
+#[test]
+fn null_is_an_empty_run() {
+    let mut out = [0xa5; REGISTRY_OUTPUT];
+    let mut state = raw_registry();
+    // SAFETY: the state is a registry; each run is `out`, or empty.
+    unsafe {
+        let told =
+            ffi::bks_registry_request(&mut *state, 1, null(), 0, out.as_mut_ptr(), out.len());
+        assert_eq!((told.refusal, told.written), (3, 0));
+        let told = ffi::bks_registry_request(&mut *state, 1, null(), 0, null_mut(), 0);
+        assert_eq!((told.refusal, told.written), (1, 0));
+        let mut digest = [0xa5; 17];
+        ffi::bks_md5(null(), 0, digest.as_mut_ptr());
+        assert_eq!(digest[..16], model::md5(b""));
+        assert_eq!(digest[16], 0xa5, "a digest has sixteen bytes");
+        assert!(!ffi::bks_node_name_ok(null(), 0));
+    }
+    assert!(out.iter().all(|byte| *byte == 0xa5));
+}
+
+/// A refused making writes no state.
+#[test]
+fn a_refused_making_writes_nothing() {
+    let mut memory = vec![0xa5u8; size_of::<bks_registry>()];
+    // SAFETY: the memory is of a registry's size, and the call is refused.
+    let refusal = unsafe { ffi::bks_registry_new(memory.as_mut_ptr().cast(), 4369, 0) };
+    assert_eq!(refusal, Refusal::ZeroCreation.number());
+    assert!(memory.iter().all(|byte| *byte == 0xa5));
+}
+
+/// Each field of a registration comes back as what it is, and in its own place.
+#[test]
+fn fields_of_a_registration() {
+    let request = Alive2 {
+        port: 0x0102,
+        kind: 3,
+        protocol: 4,
+        highest: 0x0506,
+        lowest: 6,
+        name: b"name",
+        extra: b"extra",
+    };
+    let mut registry = Registry::new(0xfffe, 0x0708_090a).unwrap();
+    let mut out = [0; REGISTRY_OUTPUT];
+    registry
+        .request(0x0b0c_0d0e, &request.frame(), &mut out)
+        .unwrap();
+    let node = registry.entry(0).unwrap();
+    assert_eq!((node.connection, node.creation), (0x0b0c_0d0e, 0x0708_090a));
+    assert_eq!((node.port, node.kind, node.protocol), (0x0102, 3, 4));
+    assert_eq!((node.highest, node.lowest), (0x0506, 6));
+    assert_eq!(
+        (&node.name[..], &node.extra[..]),
+        (&b"name"[..], &b"extra"[..])
+    );
+    assert_eq!(
+        (registry.port(), registry.next_creation()),
+        (0xfffe, 0x0708_090b)
+    );
+}
+
+/// A place or slot whose number has more than 32 bits is not the one of its lower bits.
+#[test]
+fn numbers_are_not_cut() {
+    let mut out = [0; REGISTRY_OUTPUT];
+    let mut registry = Registry::new(4369, 1).unwrap();
+    registry
+        .request(1, &Alive2::of(b"name").frame(), &mut out)
+        .unwrap();
+    assert!(registry.entry(0).is_some());
+    for place in [64, 1 << 32, usize::MAX] {
+        assert_eq!(registry.entry(place), None);
+    }
+    let mut endpoint = Endpoint::new(b"a@b", GOOD_FLAGS, 1).unwrap();
+    endpoint.arrive().unwrap();
+    let cookies = Cookies {
+        own: b"",
+        standard: b"monster",
+    };
+    for slot in [32, 1 << 32, usize::MAX] {
+        assert_eq!(endpoint.slot(slot), Slot::default());
+        assert_eq!(endpoint.close(slot), Err(Refusal::SlotNotTaken));
+        let answer = endpoint.message(slot, b"", 0, cookies, &mut out[..ENDPOINT_OUTPUT]);
+        assert_eq!(answer, Err(Refusal::SlotNotTaken));
+    }
+    assert_ne!(endpoint.slot(0), Slot::default());
+}
+
+/// A clone goes its own way.
+#[test]
+fn clones_are_apart() {
+    let mut out = [0; REGISTRY_OUTPUT];
+    let mut registry = Registry::new(4369, 1).unwrap();
+    let before = registry.clone();
+    registry
+        .request(1, &Alive2::of(b"name").frame(), &mut out)
+        .unwrap();
+    assert_eq!(
+        (
+            registry.registrations().count(),
+            before.registrations().count()
+        ),
+        (1, 0)
+    );
+    let mut endpoint = Endpoint::new(b"a@b", GOOD_FLAGS, 1).unwrap();
+    let before = endpoint.clone();
+    endpoint.arrive().unwrap();
+    assert_eq!(before.slot(0), Slot::default());
+    assert_ne!(endpoint.slot(0), Slot::default());
+}
+
+/// States can be handed to another thread.
+#[test]
+fn states_can_be_sent() {
+    fn is_send<T: Send + 'static>() {}
+    is_send::<Registry>();
+    is_send::<Endpoint>();
+}
+
+/// How much memory the library takes for a state, seen from the library's side.
+///
+/// A struct of this size is returned through a pointer that goes before the other arguments (System
+/// V ABI, 3.2.3), so the same function can be declared with that pointer, and lent memory that the
+/// test has patterned.
+#[cfg(all(target_arch = "x86_64", unix))]
+mod sizes {
+    use super::*;
+
+    const GUARD: usize = 256;
+
+    #[allow(clashing_extern_declarations)]
+    extern "C" {
+        #[link_name = "bks_registry_new_value"]
+        fn registry_new(result: *mut u8, port: u16, first_creation: u32) -> *mut u8;
+    }
+
+    /// Which bytes `write` has written: those that differ from one pattern or the other. The memory
+    /// is aligned as a state is and, at least once, no better.
+    fn written(length: usize, align: usize, write: impl Fn(*mut u8)) -> Vec<usize> {
+        let patterned = |pattern: u8, beside: usize| {
+            let mut memory = vec![pattern; length + GUARD + 4 * align];
+            let at = memory.as_ptr().align_offset(2 * align) + beside;
+            write(memory[at..].as_mut_ptr());
+            memory.split_off(at)
+        };
+        let (first, second) = (patterned(0xa5, 0), patterned(0x5a, align));
+        let is_written = |i: &usize| first[*i] != 0xa5 || second[*i] != 0x5a;
+        (0..length + GUARD).filter(is_written).collect()
+    }
+
+    /// The result is the state with the refusal behind it, which must lie where the wrapper reads it.
+    #[test]
+    fn registry() {
+        let (length, align) = (size_of::<bks_registry>() + 4, align_of::<bks_registry>());
+        // SAFETY: the memory has room for the state, the refusal and more.
+        let written = written(length, align, |memory| unsafe {
+            registry_new(memory, 4369, 0x0102_0304);
+        });
+        assert_eq!(
+            written.last(),
+            Some(&(length - 1)),
+            "the refusal ends the result"
+        );
+        assert_eq!(
+            written.len(),
+            length - 2,
+            "all but the two bytes between port and creation"
+        );
+    }
+}

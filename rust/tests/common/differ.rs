@@ -1,0 +1,102 @@
+//! Runs sequences of calls through the library and the model, and shows one where they differ.
+
+use std::fmt::Display;
+use std::str::FromStr;
+
+use super::tally::Tally;
+
+/// The library and the model side by side, before any call.
+pub trait Compared: Default {
+    /// A call with everything that is lent to it; as text, one line.
+    type Call: Clone + Display + FromStr<Err = String>;
+
+    /// Does the call on both sides, and counts what happened. An error says what differs.
+    fn apply(&mut self, call: &Self::Call, tally: &mut Tally) -> Result<(), String>;
+}
+
+/// What differs at the end of these calls, if anything.
+fn difference<C: Compared>(calls: &[C::Call]) -> Option<String> {
+    let mut pair = C::default();
+    let mut tally = Tally::default();
+    calls
+        .iter()
+        .find_map(|call| pair.apply(call, &mut tally).err())
+}
+
+/// Leaves out calls as long as the rest still shows a difference.
+fn shorten<C: Compared>(mut calls: Vec<C::Call>) -> Vec<C::Call> {
+    let mut run = calls.len().div_ceil(2);
+    while run > 0 {
+        let mut from = 0;
+        while from < calls.len() {
+            let mut fewer = calls.clone();
+            fewer.drain(from..(from + run).min(calls.len()));
+            if difference::<C>(&fewer).is_some() {
+                calls = fewer;
+            } else {
+                from += run;
+            }
+        }
+        run /= 2;
+    }
+    calls
+}
+
+/// Reports calls, the last of which showed a difference, in a form that can be run again.
+pub fn report<C: Compared>(seed: u64, calls: Vec<C::Call>) -> ! {
+    let found = difference::<C>(&calls).expect("the same calls differ again");
+    let short = shorten::<C>(calls);
+    let lines: String = short.iter().map(|call| format!("{call}\n")).collect();
+    let still = difference::<C>(&short).expect("a shorter sequence is kept only if it differs");
+    panic!(
+        "seed {seed}: {found}\n\
+         shortened: {still}\n\
+         To run it again, put these lines into a file, name the file in BIRKENSCHUH_REPLAY, and run \
+         the test `replay` beside this one:\n{lines}"
+    );
+}
+
+/// Runs the calls of the file that `BIRKENSCHUH_REPLAY` names, or else those given.
+pub fn replay<C: Compared>(given: &str) {
+    let text = match std::env::var("BIRKENSCHUH_REPLAY") {
+        Ok(path) => {
+            std::fs::read_to_string(&path).unwrap_or_else(|error| panic!("{path}: {error}"))
+        }
+        Err(_) => given.to_string(),
+    };
+    let call = |line: &str| {
+        line.parse()
+            .unwrap_or_else(|error| panic!("{line}: {error}"))
+    };
+    let calls: Vec<C::Call> = text.lines().map(call).collect();
+    assert!(!calls.is_empty(), "no calls to run");
+    if let Some(found) = difference::<C>(&calls) {
+        panic!("{found}\n{text}");
+    }
+}
+
+/// The first difference between two outputs, as text.
+pub fn outputs(ours: &[u8], expected: &[u8]) -> Result<(), String> {
+    if ours == expected {
+        return Ok(());
+    }
+    let at = ours.iter().zip(expected).position(|(a, b)| a != b);
+    let at = at.expect("outputs are of one length");
+    Err(format!(
+        "output byte {at} is {:#04x}, expected {:#04x}",
+        ours[at], expected[at]
+    ))
+}
+
+/// An error that names both sides unless they are equal.
+pub fn same<T: PartialEq + std::fmt::Debug>(
+    what: &str,
+    ours: T,
+    expected: T,
+) -> Result<(), String> {
+    if ours == expected {
+        Ok(())
+    } else {
+        Err(format!("{what} is {ours:?}, expected {expected:?}"))
+    }
+}

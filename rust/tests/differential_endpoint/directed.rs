@@ -1,0 +1,284 @@
+//! Sequences that go straight to a border or a rule.
+
+use birkenschuh::{Stage, SLOTS};
+use model::digest;
+
+use crate::calls::Call;
+use crate::common::frames::*;
+use crate::reach::*;
+
+/// The stages at which a message is taken in.
+const OPEN: [Stage; 6] = [
+    Stage::AwaitsName,
+    Stage::AwaitsAlive,
+    Stage::AwaitsReply,
+    Stage::AwaitsStatus,
+    Stage::AwaitsChallenge,
+    Stage::AwaitsAck,
+];
+
+/// For each stage, the calls that reach it and then one more message for each frame.
+fn then(stage: Stage, frames: impl IntoIterator<Item = Vec<u8>>) -> Vec<Vec<Call>> {
+    let (before, slot) = reach(stage);
+    let with = |frame| [before.clone(), vec![message(slot, frame)]].concat();
+    frames.into_iter().map(with).collect()
+}
+
+fn edited(call: &Call, edit: impl Fn(&mut crate::calls::Message)) -> Call {
+    let mut call = call.clone();
+    match &mut call {
+        Call::Message(message) => edit(message),
+        _ => unreachable!("only messages are edited"),
+    }
+    call
+}
+
+/// The tag that is not the stage's own is refused with 4, at each stage.
+#[test]
+fn tags() {
+    for stage in OPEN {
+        let tagged = |tag| {
+            let mut frame = good(stage);
+            frame[2] = tag;
+            frame
+        };
+        let tally = run(then(stage, (0..=255).map(tagged)));
+        assert_eq!(tally.times(&format!("{stage:?}: refusal 4")), 2 * 255);
+    }
+}
+
+/// Each message cut at every byte and lengthened, with the length as it was and made right.
+#[test]
+fn cuts() {
+    for stage in OPEN {
+        let whole = good(stage);
+        let cut = (0..whole.len()).map(|length| whole[..length].to_vec());
+        let mended = (2..whole.len()).map(|length| frame(&whole[2..length]));
+        let longer = (1..=4).map(|more| [&whole[..], &vec![b'@'; more]].concat());
+        let longer_mended = (1..=4).map(|more| frame(&[&whole[2..], &vec![b'@'; more]].concat()));
+        let frames: Vec<Vec<u8>> = cut
+            .chain(mended)
+            .chain(longer)
+            .chain(longer_mended)
+            .collect();
+        let tally = run(then(stage, frames));
+        // The last 1 is the mended frame of no body.
+        let not_frames = whole.len() as u64 + 4 + 1;
+        assert_eq!(
+            tally.times(&format!("{stage:?}: refusal 3")),
+            2 * not_frames
+        );
+    }
+}
+
+/// Each required bit cleared, and each other bit set, in both messages and in the making.
+#[test]
+fn flags() {
+    let each = (0..64).map(|bit| GOOD_FLAGS ^ (1 << bit));
+    let names = each.clone().map(|flags| name_message(flags, 1, PEER));
+    assert_eq!(
+        run(then(Stage::AwaitsName, names)).times("AwaitsName: refusal 9"),
+        2 * 4
+    );
+    let challenges = each
+        .clone()
+        .map(|flags| challenge_message(flags, 1, 1, PEER));
+    let tally = run(then(Stage::AwaitsChallenge, challenges));
+    assert_eq!(tally.times("AwaitsChallenge: refusal 9"), 2 * 4);
+    let raw = true;
+    let made = each.map(|flags| {
+        vec![Call::New {
+            raw,
+            name: OWN.to_vec(),
+            flags,
+            creation: 1,
+        }]
+    });
+    assert_eq!(run(made).times("new, raw: refusal 9"), 2 * 4);
+}
+
+/// Full names of each length around the rule's borders, and each place for the "@".
+#[test]
+fn names() {
+    let of_length = |length: usize| {
+        let mut name = vec![b'x'; length];
+        if length > 1 {
+            name[1] = b'@';
+        }
+        name
+    };
+    let mut names: Vec<Vec<u8>> = (0..=5).chain(252..=258).map(of_length).collect();
+    names.extend((0..9).map(|at| [&b"xxxxxxxx"[..at], b"@", &b"xxxxxxxx"[at..]].concat()));
+    names.extend((0..9).map(|at| [&b"xx@xxxxx"[..at], b"@", &b"xx@xxxxx"[at..]].concat()));
+    // Too short: 0, 1, 2; too long: 256 to 258; first and last; all with two.
+    let broken = 3 + 3 + 2 + 9;
+    let messages = names.iter().map(|name| name_message(GOOD_FLAGS, 1, name));
+    assert_eq!(
+        run(then(Stage::AwaitsName, messages)).times("AwaitsName: refusal 6"),
+        2 * broken
+    );
+    let tally = run(names.iter().map(|name| vec![start(name)]));
+    assert_eq!(tally.times("start: refusal 6"), 2 * broken);
+    let make = |name: &Vec<u8>| Call::New {
+        raw: false,
+        name: name.clone(),
+        flags: GOOD_FLAGS,
+        creation: 1,
+    };
+    let tally = run(names.iter().map(|name| vec![make(name)]));
+    assert_eq!(tally.times("new, safe: refusal 6"), 2 * broken);
+}
+
+/// For each stage, the message that moves it on with each of the edits.
+fn edits(edit: impl Fn(&Call) -> Vec<Call>) -> Vec<Vec<Call>> {
+    let mut lists = Vec::new();
+    for stage in OPEN {
+        let (before, slot) = reach(stage);
+        let tries = edit(&message(slot, good(stage)));
+        lists.extend(
+            tries
+                .into_iter()
+                .map(|last| [before.clone(), vec![last]].concat()),
+        );
+    }
+    lists
+}
+
+/// A cookie is needed at three stages only.
+#[test]
+fn cookies() {
+    let lengths = [
+        (0, 0),
+        (0, 1),
+        (0, 255),
+        (0, 256),
+        (1, 0),
+        (255, 256),
+        (256, 1),
+        (256, 256),
+    ];
+    let tally = run(edits(|last| {
+        let of = |(own, standard)| {
+            edited(last, |message| {
+                (message.own, message.standard) = (vec![b'c'; own], vec![b'd'; standard]);
+            })
+        };
+        lengths.into_iter().map(of).collect()
+    }));
+    for stage in OPEN {
+        let needs = matches!(
+            stage,
+            Stage::AwaitsReply | Stage::AwaitsChallenge | Stage::AwaitsAck
+        );
+        let refused = if needs { 2 * 4 } else { 0 };
+        assert_eq!(tally.times(&format!("{stage:?}: refusal 11")), refused);
+    }
+}
+
+/// Outputs around the stated room, and slots that there are none of or that are free.
+#[test]
+fn rooms_and_slots() {
+    let rooms = [0, 1, 294, 299, 300, 301];
+    let tally = run(edits(|last| {
+        rooms
+            .map(|room| edited(last, |message| message.room = room))
+            .to_vec()
+    }));
+    for stage in OPEN {
+        assert_eq!(tally.times(&format!("{stage:?}: refusal 1")), 2 * 4);
+    }
+    let slots = [31, 32, 33, 256, u32::MAX as usize];
+    let tally = run(edits(|last| {
+        let messages = slots.map(|slot| edited(last, |message| message.slot = slot));
+        [
+            messages.to_vec(),
+            slots.map(|slot| Call::Close { slot }).to_vec(),
+        ]
+        .concat()
+    }));
+    assert_eq!(tally.times("Free: refusal 2"), 2 * 6 * 5);
+    assert_eq!(tally.times("close: refusal 2"), 2 * 6 * 5);
+}
+
+/// All slots taken, by both roles; then a slot in the middle is freed and taken again.
+#[test]
+fn all_slots() {
+    let name = |number: usize| format!("peer{number}@host").into_bytes();
+    let mut calls: Vec<Call> = (0..SLOTS)
+        .step_by(2)
+        .flat_map(|at| [start(&name(at)), Call::Arrive])
+        .collect();
+    calls.extend([start(&name(99)), Call::Arrive, start(&name(0)), start(OWN)]);
+    calls.extend([
+        Call::Close { slot: 17 },
+        start(&name(99)),
+        Call::Close { slot: 31 },
+        Call::Arrive,
+    ]);
+    let tally = run([calls]);
+    assert_eq!(tally.times("start: refusal 13"), 2);
+    assert_eq!(tally.times("start: refusal 12"), 2 * 2);
+    assert_eq!(tally.times("arrive: refusal 13"), 2);
+}
+
+/// Both nodes start: the one of the greater name goes on. At each stage of our attempt.
+#[test]
+fn simultaneous_starts() {
+    for (peer, outcome) in [
+        (
+            PEER,
+            "AwaitsName -> AwaitsReply, sent ok_simultaneous, another freed",
+        ),
+        (LESSER, "AwaitsName -> Free, sent nok"),
+    ] {
+        let challenge = challenge_message(GOOD_FLAGS, THEIRS, 5, peer);
+        let on = [message(0, status(b"ok")), message(0, challenge)];
+        let lists = (0..=2).map(|steps| {
+            let theirs = [Call::Arrive, message(1, name_message(GOOD_FLAGS, 5, peer))];
+            [&[start(peer)], &on[..steps], &theirs].concat()
+        });
+        assert_eq!(run(lists).times(outcome), 2 * 3);
+    }
+}
+
+/// A connected peer comes again: the old connection ends by the right digest, and by nothing else.
+#[test]
+fn alive() {
+    let (before, new) = reach(Stage::AwaitsAlive);
+    let answer = |word: &[u8]| message(new, status(word));
+    let mut wrong = digest(OURS, COOKIE);
+    wrong[15] ^= 1;
+    let third = [Call::Arrive, message(2, good(Stage::AwaitsName))];
+    let lists = [
+        vec![answer(b"true"), message(new, good(Stage::AwaitsReply))],
+        vec![answer(b"true"), message(new, reply(1, wrong))],
+        vec![
+            answer(b"true"),
+            message(new, reply(1, digest(THEIRS, COOKIE))),
+        ],
+        vec![answer(b"false")],
+        third.to_vec(),
+        [vec![answer(b"true")], third.to_vec()].concat(),
+    ];
+    let tally = run(lists.map(|after| [before.clone(), after].concat()));
+    assert_eq!(tally.times("AwaitsReply -> Connected, another freed"), 2);
+    assert_eq!(tally.times("AwaitsReply: refusal 15"), 2 * 2);
+    assert_eq!(tally.times("AwaitsAlive -> Free"), 2);
+    assert_eq!(tally.times("AwaitsName -> Free, sent nok"), 2 * 2);
+}
+
+/// Every bit of a digest counts, in reply and acknowledgement.
+#[test]
+fn digests() {
+    for stage in [Stage::AwaitsReply, Stage::AwaitsAck] {
+        let turned = (0..128).map(|bit| {
+            let mut frame = good(stage);
+            let at = frame.len() - 16 + bit / 8;
+            frame[at] ^= 1 << (bit % 8);
+            frame
+        });
+        let tally = run(then(stage, turned.chain([good(stage)])));
+        assert_eq!(tally.times(&format!("{stage:?}: refusal 15")), 2 * 128);
+        assert_eq!(tally.times(&format!("{stage:?} -> Connected")), 2);
+    }
+}

@@ -1,0 +1,285 @@
+//! Random calls of the endpoint. The next message is made from the model's state, so that many
+//! handshakes come to their end and every stage is left in every way.
+
+use birkenschuh::{ENDPOINT_OUTPUT, SLOTS};
+use model::{digest, Stage};
+
+use crate::calls::{Call, Message};
+use crate::common::frames::*;
+use crate::common::rng::Rng;
+use crate::fields::{broken_name, flags, full_name, good_flags, near};
+
+const WORDS: [&[u8]; 17] = [
+    b"ok",
+    b"ok",
+    b"ok",
+    b"ok",
+    b"alive",
+    b"ok_simultaneous",
+    b"ok",
+    b"ok",
+    b"ok_simultaneous",
+    b"alive",
+    b"nok",
+    b"not_allowed",
+    b"true",
+    b"false",
+    b"",
+    b"ok\0",
+    b"named:",
+];
+
+const ALIVE_ANSWERS: [&[u8]; 8] = [
+    b"true", b"true", b"true", b"true", b"false", b"false", b"ok", b"tru",
+];
+
+const STAGES: [Stage; 6] = [
+    Stage::AwaitsName,
+    Stage::AwaitsAlive,
+    Stage::AwaitsReply,
+    Stage::AwaitsStatus,
+    Stage::AwaitsChallenge,
+    Stage::AwaitsAck,
+];
+
+const COOKIE_LENGTHS: [usize; 6] = [0, 1, 2, 254, 255, 256];
+
+/// What the calls of one sequence draw from.
+pub struct Generator {
+    own_name: Vec<u8>,
+    peers: Vec<Vec<u8>>,
+    cookies: [Vec<u8>; 2],
+    /// In a hundred calls: closes, and of the others starts and arrivals.
+    closes: usize,
+    beginnings: usize,
+}
+
+impl Generator {
+    pub fn new(rng: &mut Rng) -> Generator {
+        let own_name = full_name(rng);
+        let many = *rng.pick(&[1, 3, 12, 60]);
+        let mut peers: Vec<Vec<u8>> = (0..many).map(|_| near(rng, &own_name)).collect();
+        if rng.chance(30) {
+            peers.push(own_name.clone());
+        }
+        let cookies = [1, 2].map(|_| {
+            let length = if rng.chance(20) {
+                *rng.pick(&[1, 255])
+            } else {
+                1 + rng.below(30)
+            };
+            rng.bytes(length)
+        });
+        Generator {
+            own_name,
+            peers,
+            cookies,
+            closes: *rng.pick(&[1, 4, 15]),
+            beginnings: *rng.pick(&[10, 25, 70]),
+        }
+    }
+
+    pub fn first(&self, rng: &mut Rng) -> Call {
+        let name = self.own_name.clone();
+        let flags = good_flags(rng);
+        Call::New {
+            raw: rng.chance(50),
+            name,
+            flags,
+            creation: rng.border_u32(),
+        }
+    }
+
+    pub fn call(&self, rng: &mut Rng, model: &model::Endpoint) -> Call {
+        if rng.below(500) == 0 {
+            return self.remake(rng);
+        }
+        if rng.chance(self.closes) {
+            return Call::Close {
+                slot: slot(rng, model),
+            };
+        }
+        // With nobody on the way, most messages would find a free slot.
+        let idle = busy(model).is_empty() && rng.chance(90);
+        if !idle && !rng.chance(self.beginnings) {
+            return Call::Message(self.message(rng, model));
+        }
+        if rng.chance(40) {
+            return Call::Arrive;
+        }
+        let name = match rng.below(10) {
+            0 => broken_name(rng),
+            1..=3 => self.peer(rng),
+            _ => self.stranger(rng, model),
+        };
+        Call::Start {
+            name,
+            room: room(rng),
+        }
+    }
+
+    /// A peer that has no slot, if a few tries find one.
+    fn stranger(&self, rng: &mut Rng, model: &model::Endpoint) -> Vec<u8> {
+        let has_slot = |name: &[u8]| (0..SLOTS).any(|at| *model.slot(at).name == *name);
+        let tries: Vec<Vec<u8>> = (0..4).map(|_| self.peer(rng)).collect();
+        let found = tries.iter().find(|name| !has_slot(name));
+        found.unwrap_or(&tries[0]).clone()
+    }
+
+    /// Another endpoint, or one that is refused.
+    fn remake(&self, rng: &mut Rng) -> Call {
+        let name = if rng.chance(30) {
+            full_name(rng)
+        } else {
+            broken_name(rng)
+        };
+        let flags = if rng.chance(50) {
+            flags(rng)
+        } else {
+            rng.next()
+        };
+        Call::New {
+            raw: rng.chance(50),
+            name,
+            flags,
+            creation: rng.border_u32(),
+        }
+    }
+
+    fn peer(&self, rng: &mut Rng) -> Vec<u8> {
+        rng.pick(&self.peers).clone()
+    }
+
+    fn message(&self, rng: &mut Rng, model: &model::Endpoint) -> Message {
+        let slot = slot(rng, model);
+        let (own, standard) = self.cookies(rng);
+        let cookie = if own.is_empty() { &standard } else { &own };
+        let at = model.slot(slot % SLOTS);
+        let mut frame = match rng.below(100) {
+            0..=3 => {
+                let stage = *rng.pick(&STAGES);
+                self.frame(rng, model, at, stage, cookie)
+            }
+            4..=5 => noise(rng),
+            _ => self.frame(rng, model, at, at.stage, cookie),
+        };
+        if rng.chance(8) {
+            damage(rng, &mut frame);
+        }
+        Message {
+            slot,
+            frame,
+            challenge: rng.border_u32(),
+            own,
+            standard,
+            room: room(rng),
+        }
+    }
+
+    /// What a peer might send to a slot of this stage; mostly what moves it on.
+    fn frame(
+        &self,
+        rng: &mut Rng,
+        model: &model::Endpoint,
+        at: &model::Slot,
+        stage: Stage,
+        cookie: &[u8],
+    ) -> Vec<u8> {
+        let (flags, creation, number) = (flags(rng), rng.border_u32(), rng.border_u32());
+        let mut frame = match stage {
+            Stage::AwaitsName => {
+                let name = if rng.chance(95) {
+                    self.peer(rng)
+                } else {
+                    broken_name(rng)
+                };
+                name_message(flags, creation, &name)
+            }
+            Stage::AwaitsAlive => return status(word(rng, &ALIVE_ANSWERS)),
+            Stage::AwaitsStatus => return status(word(rng, &WORDS)),
+            Stage::AwaitsChallenge => {
+                let name = if rng.chance(95) {
+                    at.name.to_vec()
+                } else {
+                    self.peer(rng)
+                };
+                challenge_message(flags, number, creation, &name)
+            }
+            Stage::AwaitsReply => return reply(number, self.proof(rng, model, at, number, cookie)),
+            Stage::AwaitsAck | Stage::Free | Stage::Connected => {
+                return acknowledgement(self.proof(rng, model, at, number, cookie))
+            }
+        };
+        if rng.chance(15) {
+            let more = 1 + rng.below(40);
+            frame.extend(rng.bytes(more));
+            mend_length(&mut frame);
+        }
+        frame
+    }
+
+    /// Mostly the right digest, else one that looks right.
+    fn proof(
+        &self,
+        rng: &mut Rng,
+        model: &model::Endpoint,
+        at: &model::Slot,
+        number: u32,
+        cookie: &[u8],
+    ) -> [u8; 16] {
+        let mut proof = digest(at.challenge, cookie);
+        match rng.below(40) {
+            0 => proof[rng.below(16)] ^= 1 << rng.below(8),
+            1 => proof = digest(number, cookie),
+            2 => proof = digest(at.challenge, &self.cookies[rng.below(2)]),
+            3 => proof = digest(model.slot(rng.below(SLOTS)).challenge, cookie),
+            4 => proof = model::md5(&[cookie, at.challenge.to_string().as_bytes()].concat()),
+            _ => (),
+        }
+        proof
+    }
+
+    /// The peer's own cookie and the standard one.
+    fn cookies(&self, rng: &mut Rng) -> (Vec<u8>, Vec<u8>) {
+        let [usual, other] = self.cookies.clone();
+        match rng.below(20) {
+            0 => (rng.bytes(1), usual),
+            1 => {
+                let lengths = (*rng.pick(&COOKIE_LENGTHS), *rng.pick(&COOKIE_LENGTHS));
+                (rng.bytes(lengths.0), rng.bytes(lengths.1))
+            }
+            2..=5 => (usual, other),
+            6 => (usual, Vec::new()),
+            _ => (Vec::new(), usual),
+        }
+    }
+}
+
+fn word<'a>(rng: &mut Rng, words: &[&'a [u8]]) -> &'a [u8] {
+    words[rng.below(words.len())]
+}
+
+/// The slots that are neither free nor connected.
+fn busy(model: &model::Endpoint) -> Vec<usize> {
+    let idle = |at: usize| matches!(model.slot(at).stage, Stage::Free | Stage::Connected);
+    (0..SLOTS).filter(|at| !idle(*at)).collect()
+}
+
+/// Mostly a slot that is on the way.
+fn slot(rng: &mut Rng, model: &model::Endpoint) -> usize {
+    let busy = busy(model);
+    match rng.below(20) {
+        0 => rng.below(SLOTS),
+        1 if rng.chance(30) => *rng.pick(&[31, 32, 33, 255, 256, 1 << 31, u32::MAX as usize]),
+        _ if busy.is_empty() => rng.below(SLOTS),
+        _ => *rng.pick(&busy),
+    }
+}
+
+fn room(rng: &mut Rng) -> usize {
+    match rng.below(60) {
+        0 => *rng.pick(&[0, 1, 20, 294, 299]),
+        1 => *rng.pick(&[301, 1000]),
+        _ => ENDPOINT_OUTPUT,
+    }
+}

@@ -1,0 +1,197 @@
+//! Random calls of the mapper, most of them near a border.
+
+use birkenschuh::REGISTRY_OUTPUT;
+
+use crate::calls::Call;
+use crate::common::frames::{damage, frame, noise, port_please2, Alive2};
+use crate::common::rng::Rng;
+
+/// Well-formed UTF-8 at the borders of RFC 3629's table.
+const GOOD: [&[u8]; 14] = [
+    b"a",
+    b"\x01",
+    b"\x7f",
+    b"\xc2\x80",
+    b"\xdf\xbf",
+    b"\xe0\xa0\x80",
+    b"\xe1\x80\x80",
+    b"\xec\xbf\xbf",
+    b"\xed\x9f\xbf",
+    b"\xee\x80\x80",
+    b"\xef\xbf\xbf",
+    b"\xf0\x90\x80\x80",
+    b"\xf3\xbf\xbf\xbf",
+    b"\xf4\x8f\xbf\xbf",
+];
+
+/// Just beyond those borders, cut short, or what a name may not have.
+const BAD: [&[u8]; 16] = [
+    b"\0",
+    b"@",
+    b"\x80",
+    b"\xbf",
+    b"\xc0\x80",
+    b"\xc1\xbf",
+    b"\xc2",
+    b"\xe0\x9f\xbf",
+    b"\xe2\x82",
+    b"\xed\xa0\x80",
+    b"\xf0\x8f\xbf\xbf",
+    b"\xf0\x9f\x98",
+    b"\xf4\x90\x80\x80",
+    b"\xf5\x80\x80\x80",
+    b"\xe2\x82\x41",
+    b"\xff",
+];
+
+const NAME_LENGTHS: [usize; 9] = [0, 1, 2, 253, 254, 255, 256, 257, 300];
+const EXTRA_LENGTHS: [usize; 7] = [0, 1, 126, 127, 128, 129, 200];
+const VERSIONS: [u16; 8] = [0, 4, 5, 6, 7, 255, 256, 65_535];
+
+/// What the calls of one sequence draw from.
+pub struct Generator {
+    names: Vec<Vec<u8>>,
+    connections: Vec<u32>,
+    /// In a hundred: how many calls are closes. Few, and the registry fills up.
+    closes: usize,
+}
+
+impl Generator {
+    pub fn new(rng: &mut Rng) -> Generator {
+        let many = *rng.pick(&[3, 10, 80, 300]);
+        let names = (0..many).map(|_| name(rng)).collect();
+        let mut connections: Vec<u32> = (0..many as u32).collect();
+        connections.extend([0, 1, u32::MAX, u32::MAX - 1, 1 << 31]);
+        Generator {
+            names,
+            connections,
+            closes: *rng.pick(&[1, 5, 20]),
+        }
+    }
+
+    pub fn first(&self, rng: &mut Rng) -> Call {
+        let last = u32::MAX - rng.below(40) as u32;
+        Call::New {
+            raw: rng.chance(50),
+            port: *rng.pick(&[0, 1, 4369, 65_535]),
+            first_creation: *rng.pick(&[1, 2, 3, 1 << 31, last, last]),
+        }
+    }
+
+    pub fn call(&self, rng: &mut Rng) -> Call {
+        let connection = *rng.pick(&self.connections);
+        if rng.chance(self.closes) {
+            return Call::Close { connection };
+        }
+        if rng.below(500) == 0 {
+            return Call::New {
+                raw: rng.chance(50),
+                port: 1,
+                first_creation: 0,
+            };
+        }
+        let room = match rng.below(40) {
+            0 => *rng.pick(&[0, 1, 4, 17_603]),
+            1 => *rng.pick(&[17_605, 20_000]),
+            _ => REGISTRY_OUTPUT,
+        };
+        let mut frame = self.frame(rng);
+        if rng.chance(12) {
+            damage(rng, &mut frame);
+        }
+        Call::Request {
+            connection,
+            room,
+            frame,
+        }
+    }
+
+    fn frame(&self, rng: &mut Rng) -> Vec<u8> {
+        match rng.below(100) {
+            0..=39 => self.alive2(rng, false),
+            40..=54 => self.alive2(rng, true),
+            55..=79 => port_please2(self.name(rng)),
+            80..=84 => port_please2(&name(rng)),
+            85..=86 => b"\x00\x01n".to_vec(),
+            87 => b"\x00\x02n\x00".to_vec(),
+            88..=89 => frame(&[*rng.pick(&[100, 107, 115])]),
+            90..=94 => tagged(rng),
+            95..=96 => bad_counts(rng),
+            _ => noise(rng),
+        }
+    }
+
+    fn name(&self, rng: &mut Rng) -> &[u8] {
+        &self.names[rng.below(self.names.len())]
+    }
+
+    fn alive2(&self, rng: &mut Rng, at_borders: bool) -> Vec<u8> {
+        let extra = if rng.chance(30) { rng.below(129) } else { 0 };
+        let extra = rng.bytes(extra);
+        let other_name = name(rng);
+        let other_extra = vec![0x5a; *rng.pick(&EXTRA_LENGTHS)];
+        let mut request = Alive2 {
+            port: *rng.pick(&[0, 1, 9, 10, 99, 100, 4370, 9999, 10_000, 65_535]),
+            kind: rng.next() as u8,
+            protocol: rng.next() as u8,
+            highest: *rng.pick(&[5, 6, 6, 7, 65_535]),
+            lowest: *rng.pick(&[0, 5]),
+            name: self.name(rng),
+            extra: &extra,
+        };
+        if at_borders {
+            match rng.below(3) {
+                0 => {
+                    request.highest = *rng.pick(&VERSIONS);
+                    request.lowest = *rng.pick(&VERSIONS);
+                }
+                1 => request.name = &other_name,
+                _ => request.extra = &other_extra,
+            }
+        }
+        request.frame()
+    }
+}
+
+/// A name of pieces at UTF-8's borders, of a length at the rule's borders; sometimes not a name.
+pub fn name(rng: &mut Rng) -> Vec<u8> {
+    let length = if rng.chance(30) {
+        *rng.pick(&NAME_LENGTHS)
+    } else {
+        1 + rng.below(12)
+    };
+    let mut name = Vec::new();
+    let plain = rng.chance(50);
+    while name.len() < length {
+        let piece = if plain {
+            &[b'a' + rng.below(26) as u8][..]
+        } else {
+            rng.pick(&GOOD)
+        };
+        let fits = name.len() + piece.len() <= length;
+        name.extend_from_slice(if fits { piece } else { b"z" });
+    }
+    if rng.chance(8) {
+        let bad = *rng.pick(&BAD);
+        let at = rng.below(name.len() + 1);
+        name.splice(at..at, bad.iter().copied());
+    }
+    name
+}
+
+/// Any tag before a little of anything.
+fn tagged(rng: &mut Rng) -> Vec<u8> {
+    let length = rng.below(20);
+    let mut body = vec![rng.next() as u8];
+    body.extend(rng.bytes(length));
+    frame(&body)
+}
+
+/// An ALIVE2 request whose counts say something else than what is there.
+fn bad_counts(rng: &mut Rng) -> Vec<u8> {
+    let mut request = Alive2::of(b"count").frame();
+    let at = *rng.pick(&[11, 18]);
+    let count = *rng.pick(&[0u16, 3, 4, 5, 6, 7, 128, 255, 256, 65_535]);
+    request[at..at + 2].copy_from_slice(&count.to_be_bytes());
+    request
+}

@@ -1,0 +1,155 @@
+//! The library's registry beside the model's.
+
+use birkenschuh::{Registration, PLACES, REGISTRY_OUTPUT};
+
+use crate::calls::Call;
+use crate::common::differ::{outputs, same, Compared};
+use crate::common::tally::Tally;
+use crate::face::Face;
+
+/// Bytes behind the lent output, which nobody may touch.
+const GUARD: usize = 64;
+
+#[derive(Default)]
+pub struct Pair {
+    state: Option<(Face, model::Registry)>,
+    ours: Vec<u8>,
+    expected: Vec<u8>,
+    calls: usize,
+}
+
+impl Compared for Pair {
+    type Call = Call;
+
+    fn apply(&mut self, call: &Call, tally: &mut Tally) -> Result<(), String> {
+        self.calls += 1;
+        match call {
+            Call::New {
+                raw,
+                port,
+                first_creation,
+            } => self.make(*raw, *port, *first_creation, tally),
+            Call::Request {
+                connection,
+                room,
+                frame,
+            } => self.request(*connection, *room, frame, tally),
+            Call::Close { connection } => self.close(*connection, tally),
+        }
+    }
+}
+
+impl Pair {
+    pub fn model(&self) -> Option<&model::Registry> {
+        self.state.as_ref().map(|(_, model)| model)
+    }
+
+    /// A refused making leaves the registry before it where it is.
+    fn make(&mut self, raw: bool, port: u16, first: u32, tally: &mut Tally) -> Result<(), String> {
+        let ours = Face::new(raw, port, first);
+        let expected = model::Registry::new(port, first).map_err(model::Refusal::number);
+        same("the refusal", ours.as_ref().err(), expected.as_ref().err())?;
+        match (ours, expected) {
+            (Ok(ours), Ok(expected)) => {
+                tally.count(if raw { "new, raw" } else { "new, safe" });
+                self.state = Some((ours, expected));
+                self.compare_states()
+            }
+            (Err(refusal), _) => {
+                tally.count(format!("refusal {refusal}"));
+                Ok(())
+            }
+            _ => unreachable!("refusals are equal"),
+        }
+    }
+
+    fn request(
+        &mut self,
+        connection: u32,
+        room: usize,
+        frame: &[u8],
+        tally: &mut Tally,
+    ) -> Result<(), String> {
+        let Some((ours, expected)) = &mut self.state else {
+            return Ok(());
+        };
+        tally.count("requests");
+        // Another pattern at each call: a stray byte has but one chance in 256 to look right.
+        let pattern = (self.calls * 37) as u8 ^ 0xa5;
+        for output in [&mut self.ours, &mut self.expected] {
+            output.clear();
+            output.resize(room + GUARD, pattern);
+        }
+        let before = expected.next_creation();
+        let answer = ours.request(connection, frame, &mut self.ours[..room]);
+        let told = expected.request(connection, frame, &mut self.expected[..room]);
+        same("the answer", answer, told.map_err(model::Refusal::number))?;
+        outputs(&self.ours, &self.expected)?;
+        let changed = before != expected.next_creation();
+        if before > expected.next_creation() {
+            tally.count("creation wrapped");
+        }
+        match answer {
+            Ok(written) => count_reply(&self.expected[..written], frame[2], tally),
+            Err(refusal) => tally.count(format!("refusal {refusal}")),
+        }
+        if changed || self.calls % 16 == 0 {
+            self.compare_states()?;
+        }
+        Ok(())
+    }
+
+    fn close(&mut self, connection: u32, tally: &mut Tally) -> Result<(), String> {
+        let Some((ours, expected)) = &mut self.state else {
+            return Ok(());
+        };
+        let freed = ours.close(connection);
+        same("what close tells", freed, expected.close(connection))?;
+        tally.count(if freed {
+            "close frees"
+        } else {
+            "close finds none"
+        });
+        self.compare_states()
+    }
+
+    fn compare_states(&self) -> Result<(), String> {
+        let Some((ours, expected)) = &self.state else {
+            return Ok(());
+        };
+        same("the port", ours.port(), expected.port())?;
+        same(
+            "the next creation",
+            ours.next_creation(),
+            expected.next_creation(),
+        )?;
+        for place in 0..PLACES + 2 {
+            let expected = expected.entry(place).map(registration);
+            same(&format!("place {place}"), ours.entry(place), expected)?;
+        }
+        Ok(())
+    }
+}
+
+fn registration(of: &model::Registration) -> Registration {
+    Registration {
+        connection: of.connection,
+        creation: of.creation,
+        port: of.port,
+        kind: of.kind,
+        protocol: of.protocol,
+        highest: of.highest,
+        lowest: of.lowest,
+        name: of.name.to_vec(),
+        extra: of.extra.to_vec(),
+    }
+}
+
+fn count_reply(reply: &[u8], tag: u8, tally: &mut Tally) {
+    match tag {
+        110 if reply.len() == REGISTRY_OUTPUT => tally.count("names, longest reply"),
+        110 if reply.len() == 4 => tally.count("names, none"),
+        110 => tally.count("names, some"),
+        _ => tally.count(format!("reply {} result {}", reply[0], reply[1])),
+    }
+}
