@@ -1,5 +1,6 @@
 //! Sockets: accepting, waiting for all connections at once, closing those that are idle.
 
+use std::collections::VecDeque;
 use std::io;
 use std::net::{SocketAddr, TcpListener, TcpStream};
 use std::time::{Duration, Instant};
@@ -31,6 +32,8 @@ pub struct Server {
     signals: Signals,
     mapper: Mapper,
     connections: Table,
+    /// Accepted, and not looked at yet.
+    new: VecDeque<u64>,
     /// When connections have to be looked at for their deadlines: never later than the first of these.
     sweep_at: Option<Instant>,
     /// When accepting goes on.
@@ -64,6 +67,7 @@ impl Server {
             signals,
             mapper: Mapper::new(registry, options.idle_timeout, log),
             connections: Table::new(options.max_connections),
+            new: VecDeque::new(),
             sweep_at: None,
             rests_until: None,
             turned_away: Limiter::default(),
@@ -149,21 +153,28 @@ impl Server {
         }
     }
 
+    /// Takes in who waits outside. Their requests have often come by then, and are answered at once.
     fn accept(&mut self, now: Instant) -> io::Result<()> {
+        let mut outcome = Ok(());
         for _ in 0..ACCEPTS {
             match self.listener.accept() {
                 Ok((stream, peer)) => self.greet(stream, peer, now),
                 Err(error) => match error.kind() {
                     io::ErrorKind::WouldBlock => break,
                     io::ErrorKind::Interrupted | io::ErrorKind::ConnectionAborted => {}
-                    _ => return self.rest(&error, now),
+                    _ => {
+                        outcome = self.rest(&error, now);
+                        break;
+                    }
                 },
             }
         }
-        Ok(())
+        while let Some(token) = self.new.pop_front() {
+            self.attend(token, READABLE, now);
+        }
+        outcome
     }
 
-    /// Takes a new connection in. Its request has often come with it, and is then answered without a wait.
     fn greet(&mut self, stream: TcpStream, peer: SocketAddr, now: Instant) {
         let deadline = self.mapper.deadline(now);
         let made = stream
@@ -173,7 +184,7 @@ impl Server {
         match made {
             Some(token) => {
                 self.sweep_at.get_or_insert(deadline);
-                self.attend(token, READABLE, now);
+                self.new.push_back(token);
             }
             None => {
                 if let Some(times) = self.turned_away.count(now) {

@@ -61,8 +61,9 @@ fn a_half_closed_client_still_gets_its_reply() {
 fn a_name_that_returns_gets_a_new_creation() {
     let mapper = Mapper::start(&["--first-creation=4294967295"]);
     for creation in [u32::MAX, 1, 2] {
-        let (_node, given) = register(mapper.port, "ride", 4370);
+        let (node, given) = register(mapper.port, "ride", 4370);
         assert_eq!(given, creation);
+        node.shutdown(Shutdown::Both).unwrap();
     }
 }
 
@@ -71,7 +72,9 @@ fn a_name_that_returns_gets_a_new_creation() {
 fn a_name_is_free_as_soon_as_its_connection_has_ended() {
     let mapper = Mapper::start(&["--quiet"]);
     for _ in 0..2000 {
-        drop(register(mapper.port, "ride", 4370));
+        let (node, _) = register(mapper.port, "ride", 4370);
+        // Dropped, it would live on in a process that another test is just starting.
+        node.shutdown(Shutdown::Both).unwrap();
     }
 }
 
