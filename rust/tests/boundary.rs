@@ -5,7 +5,7 @@ mod common;
 
 use std::ptr::{null, null_mut};
 
-use birkenschuh::ffi::{self, bks_registry};
+use birkenschuh::ffi::{self, bks_endpoint, bks_registry};
 use birkenschuh::{Cookies, Endpoint, Refusal, Registry, Slot, ENDPOINT_OUTPUT, REGISTRY_OUTPUT};
 use common::frames::{Alive2, GOOD_FLAGS};
 
@@ -15,6 +15,20 @@ fn raw_registry() -> Box<bks_registry> {
     // SAFETY: the call writes the state, which the assertion sees.
     unsafe {
         assert_eq!(ffi::bks_registry_new(state.as_mut_ptr(), 4369, 4), 0);
+        state.assume_init()
+    }
+}
+
+/// An endpoint made in memory of the host's choosing.
+fn raw_endpoint() -> Box<bks_endpoint> {
+    let (name, mut state) = (b"a@b", Box::<bks_endpoint>::new_uninit());
+    // SAFETY: the name is a slice, and the call writes the state, which the assertion sees.
+    unsafe {
+        let at = state.as_mut_ptr();
+        assert_eq!(
+            ffi::bks_endpoint_new(at, name.as_ptr(), name.len(), GOOD_FLAGS, 7),
+            0
+        );
         state.assume_init()
     }
 }
@@ -40,14 +54,45 @@ fn null_is_an_empty_run() {
     assert!(out.iter().all(|byte| *byte == 0xa5));
 }
 
+#[test]
+fn null_is_an_empty_run_for_the_endpoint() {
+    let mut out = [0xa5; ENDPOINT_OUTPUT];
+    let (at, room) = (out.as_mut_ptr(), out.len());
+    let mut state = raw_endpoint();
+    let e: *mut bks_endpoint = &mut *state;
+    // SAFETY: the state is an endpoint; each run is `out`, or empty.
+    unsafe {
+        assert_eq!(ffi::bks_endpoint_new(e, null(), 0, GOOD_FLAGS, 7), 6);
+        assert_eq!(ffi::bks_endpoint_start(e, null(), 0, at, room).refusal, 6);
+        assert_eq!(
+            ffi::bks_endpoint_start(e, null(), 0, null_mut(), 0).refusal,
+            1
+        );
+        let message = |at, room| {
+            ffi::bks_endpoint_message(e, 0, null(), 0, 0, null(), 0, null(), 0, at, room).refusal
+        };
+        assert_eq!(ffi::bks_endpoint_arrive(e).refusal, 0);
+        assert_eq!(message(null_mut(), 0), 1);
+        assert_eq!(message(at, room), 3);
+        assert_eq!(message(at, room), 2);
+    }
+    assert!(out.iter().all(|byte| *byte == 0xa5));
+}
+
 /// A refused making writes no state.
 #[test]
 fn a_refused_making_writes_nothing() {
-    let mut memory = vec![0xa5u8; size_of::<bks_registry>()];
-    // SAFETY: the memory is of a registry's size, and the call is refused.
-    let refusal = unsafe { ffi::bks_registry_new(memory.as_mut_ptr().cast(), 4369, 0) };
-    assert_eq!(refusal, Refusal::ZeroCreation.number());
-    assert!(memory.iter().all(|byte| *byte == 0xa5));
+    let mut memory = vec![0xa5a5_a5a5_a5a5_a5a5u64; size_of::<bks_registry>().div_ceil(8)];
+    let at = memory.as_mut_ptr();
+    // SAFETY: the memory is of a registry's and an endpoint's size, and the calls are refused.
+    unsafe {
+        assert_eq!(ffi::bks_registry_new(at.cast(), 4369, 0), 17);
+        assert_eq!(
+            ffi::bks_endpoint_new(at.cast(), b"a@b".as_ptr(), 3, 0, 1),
+            9
+        );
+    }
+    assert!(memory.iter().all(|word| *word == 0xa5a5_a5a5_a5a5_a5a5));
 }
 
 /// Each field of a registration comes back as what it is, and in its own place.
@@ -154,6 +199,14 @@ mod sizes {
     extern "C" {
         #[link_name = "bks_registry_new_value"]
         fn registry_new(result: *mut u8, port: u16, first_creation: u32) -> *mut u8;
+        #[link_name = "bks_endpoint_new_value"]
+        fn endpoint_new(
+            result: *mut u8,
+            name: *const u8,
+            name_len: usize,
+            flags: u64,
+            creation: u32,
+        ) -> *mut u8;
     }
 
     /// Which bytes `write` has written: those that differ from one pattern or the other. The memory
@@ -170,6 +223,20 @@ mod sizes {
         (0..length + GUARD).filter(is_written).collect()
     }
 
+    /// The state and the refusal behind it are written, up to a little padding, and nothing more.
+    fn check(written: &[usize], length: usize) {
+        assert_eq!(
+            written.last(),
+            Some(&(length - 1)),
+            "the refusal ends the result"
+        );
+        assert!(
+            length - written.len() <= 2,
+            "{} of {length} bytes written",
+            written.len()
+        );
+    }
+
     /// The result is the state with the refusal behind it, which must lie where the wrapper reads it.
     #[test]
     fn registry() {
@@ -178,15 +245,16 @@ mod sizes {
         let written = written(length, align, |memory| unsafe {
             registry_new(memory, 4369, 0x0102_0304);
         });
-        assert_eq!(
-            written.last(),
-            Some(&(length - 1)),
-            "the refusal ends the result"
-        );
-        assert_eq!(
-            written.len(),
-            length - 2,
-            "all but the two bytes between port and creation"
-        );
+        check(&written, length);
+    }
+
+    #[test]
+    fn endpoint() {
+        let (length, align) = (size_of::<bks_endpoint>() + 4, align_of::<bks_endpoint>());
+        // SAFETY: the memory has room for the state, the refusal and more.
+        let written = written(length, align, |memory| unsafe {
+            endpoint_new(memory, b"a@b".as_ptr(), 3, GOOD_FLAGS, 0x0102_0304);
+        });
+        check(&written, length);
     }
 }
