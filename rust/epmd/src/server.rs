@@ -157,7 +157,7 @@ impl Server {
     fn accept(&mut self, now: Instant) -> io::Result<()> {
         let mut outcome = Ok(());
         for _ in 0..ACCEPTS {
-            match self.listener.accept() {
+            match sys::accept(&self.listener) {
                 Ok((stream, peer)) => self.greet(stream, peer, now),
                 Err(error) => match error.kind() {
                     io::ErrorKind::WouldBlock => break,
@@ -177,11 +177,7 @@ impl Server {
 
     fn greet(&mut self, stream: TcpStream, peer: SocketAddr, now: Instant) {
         let deadline = self.mapper.deadline(now);
-        let made = stream
-            .set_nonblocking(true)
-            .ok()
-            .and_then(|()| self.connections.add(stream, peer, deadline));
-        match made {
+        match self.connections.add(stream, peer, deadline) {
             Some(token) => {
                 self.sweep_at.get_or_insert(deadline);
                 self.new.push_back(token);

@@ -4,7 +4,7 @@
 use std::fs::File;
 use std::io::{self, Read};
 use std::mem::MaybeUninit;
-use std::net::{TcpListener, TcpStream};
+use std::net::{IpAddr, SocketAddr, TcpListener, TcpStream};
 use std::os::fd::{AsRawFd, FromRawFd, OwnedFd};
 use std::os::raw::{c_int, c_void};
 use std::time::Duration;
@@ -22,6 +22,9 @@ const CLOSE_ON_EXEC: c_int = 0o2_000_000;
 const NON_BLOCKING: c_int = 0o4_000;
 const ADD: c_int = 1;
 const CHANGE: c_int = 3;
+const AF_INET: u16 = 2;
+/// The longest address: family 2, port 2, flow 4, address 16, scope 4. IPv4: family 2, port 2, address 4.
+const SOCKADDR_IN6: usize = 28;
 const SOL_SOCKET: c_int = 1;
 const SO_SNDBUF: c_int = 7;
 const SO_RCVBUF: c_int = 8;
@@ -53,6 +56,7 @@ extern "C" {
     fn sigprocmask(how: c_int, set: *const SignalSet, old: *mut SignalSet) -> c_int;
     fn signalfd(fd: c_int, set: *const SignalSet, flags: c_int) -> c_int;
     fn listen(fd: c_int, backlog: c_int) -> c_int;
+    fn accept4(fd: c_int, address: *mut c_void, len: *mut u32, flags: c_int) -> c_int;
     fn send(fd: c_int, bytes: *const c_void, len: usize, flags: c_int) -> isize;
     fn setsockopt(fd: c_int, level: c_int, name: c_int, value: *const c_void, len: u32) -> c_int;
 }
@@ -150,6 +154,25 @@ impl AsRawFd for Signals {
 pub fn set_backlog(listener: &TcpListener, backlog: c_int) -> io::Result<()> {
     // SAFETY: no memory is passed.
     check(unsafe { listen(listener.as_raw_fd(), backlog) }).map(drop)
+}
+
+/// A connection that blocks nobody, in one call where the standard library needs two.
+pub fn accept(listener: &TcpListener) -> io::Result<(TcpStream, SocketAddr)> {
+    let mut address = [0u8; SOCKADDR_IN6];
+    let mut length = SOCKADDR_IN6 as u32;
+    let into = address.as_mut_ptr().cast();
+    let flags = CLOSE_ON_EXEC | NON_BLOCKING;
+    // SAFETY: no more than `length` bytes are written; the descriptor is new and owned by nothing else.
+    let stream = unsafe {
+        let fd = check(accept4(listener.as_raw_fd(), into, &mut length, flags))?;
+        TcpStream::from_raw_fd(fd)
+    };
+    let port = u16::from_be_bytes([address[2], address[3]]);
+    let ip = match u16::from_ne_bytes([address[0], address[1]]) {
+        AF_INET => IpAddr::from(*address[4..].first_chunk::<4>().expect("28 bytes")),
+        _ => IpAddr::from(*address[8..].first_chunk::<16>().expect("28 bytes")),
+    };
+    Ok((stream, SocketAddr::new(ip, port)))
 }
 
 /// Bounds what the system holds for each connection that is accepted here, both ways. Beyond these
