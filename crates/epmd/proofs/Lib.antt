@@ -4,5 +4,4 @@ pub mod ReplyLaws
 pub mod ServeLaws
 pub mod Calls
 pub mod Reachable
-pub mod Cases
 pub mod Promises

@@ -11,11 +11,13 @@ ghost use Rattle.epmd.specs.Registration.{extraOf, extraBytes, free, isF
 use names::Name;
 
 // The extra bytes of a registration, zero behind the length.
+#[repr(C)]
 pub struct Extra {
     bytes: [u8; 128],
     len: u8,
 }
 
+#[repr(C)]
 pub struct Registration {
     pub(crate) name: Name,
     pub(crate) extra: Extra,

@@ -9,6 +9,7 @@ use crate::registration::Registration;
 use crate::registration::Sought;
 use crate::requests::Refusal;
 
+#[repr(C)]
 pub struct Registry {
     pub(crate) port: u16,
     pub(crate) next: u32,
@@ -29,6 +30,7 @@ pub struct Made {
 }
 
 // What close tells: whether there was a registration to free.
+#[repr(C)]
 pub struct Closed {
     pub registry: Registry,
     pub freed: bool,

@@ -1,6 +1,6 @@
 -- What an endpoint (01's gate) holds, and how its slots are looked up. The types are the code's own.
 use Prim.Native.Nat.{ℕ}
-use mathlib.Core.Bool.{Bool, true, false, _&&_, _||_, not}
+use mathlib.Core.Bool.{Bool, true, false, _&&_, _||_, not, cond}
 use mathlib.Core.List.{List, []}
 use lib.ListN.{getD, set, replicate}
 use lib.Dec.{leb, ltb, eqb}
@@ -11,6 +11,7 @@ use Rattle.names.specs.Held.{nameOf, nameBytes}
 use Rattle.handshake.specs.declared.endpoint.Stage.{Stage}
 use Rattle.handshake.specs.declared.endpoint.Stage.the-variants.{Free, AwaitsName, AwaitsAlive, AwaitsReply, AwaitsStatus, AwaitsChallenge, AwaitsAck, Connected}
 use Rattle.handshake.specs.declared.endpoint.Slot.{Slot}
+use Rattle.handshake.specs.declared.stored.Stored.{Stored}
 use Rattle.handshake.specs.declared.endpoint.Endpoint.{Endpoint}
 use Rattle.handshake.specs.declared.endpoint.Sought.{Sought}
 use Rattle.handshake.specs.declared.endpoint.Sought.the-variants.{AnyFree, AcceptedFrom, StartedTo, ConnectedTo, AnyTaken}
@@ -21,9 +22,35 @@ use Rattle.handshake.specs.declared.endpoint.Freed.the-variants.{Nothing
 abbrev pub freeSlot : Slot
 freeSlot = record { stage = Free; name = nameOf []; flags = 0; creation = 0; challenge = 0 }
 
+-- ---- a slot as it lies in the endpoint: its stage is a number there
+
+abbrev pub stageNumber : Stage → ℕ
+stageNumber Free = 0
+stageNumber AwaitsName = 1
+stageNumber AwaitsAlive = 2
+stageNumber AwaitsReply = 3
+stageNumber AwaitsStatus = 4
+stageNumber AwaitsChallenge = 5
+stageNumber AwaitsAck = 6
+stageNumber Connected = 7
+
+unfoldable pub stageOf : ℕ → Stage
+stageOf n =
+    cond (eqb n 1) AwaitsName
+    (cond (eqb n 2) AwaitsAlive
+    (cond (eqb n 3) AwaitsReply
+    (cond (eqb n 4) AwaitsStatus (cond (eqb n 5) AwaitsChallenge (cond (eqb n 6) AwaitsAck (cond (eqb n 7) Connected Free))))))
+
+unfoldable pub storedOf : Slot → Stored
+storedOf s = record { flags = s .flags; creation = s .creation; challenge = s .challenge; name = s .name; stage = stageNumber (s .stage) }
+
+-- what storedOf stores is read back (SlotLaws.slot-back)
+unfoldable pub slotOf : Stored → Slot
+slotOf s = record { stage = stageOf (s .stage); name = s .name; flags = s .flags; creation = s .creation; challenge = s .challenge }
+
 -- an endpoint with all slots free
 abbrev pub unused : Name → ℕ → ℕ → Endpoint
-unused n f c = record { name = n; flags = f; creation = c; slots = replicate 32 freeSlot }
+unused n f c = record { name = n; flags = f; creation = c; slots = replicate 32 (storedOf freeSlot) }
 
 abbrev pub fresh : List ℕ → ℕ → ℕ → Endpoint
 fresh n f c = unused (nameOf n) f c
@@ -59,10 +86,10 @@ isA k sl = eqb (kind (sl .stage)) k
 
 -- there are 32 slots; past them nothing is taken
 abbrev pub slotAt : Endpoint → ℕ → Slot
-slotAt g s = getD (g .slots) s freeSlot
+slotAt g s = slotOf (getD (g .slots) s (storedOf freeSlot))
 
 abbrev pub put : Endpoint → ℕ → Slot → Endpoint
-put g s sl = record { name = g .name; flags = g .flags; creation = g .creation; slots = set (g .slots) s sl }
+put g s sl = record { name = g .name; flags = g .flags; creation = g .creation; slots = set (g .slots) s (storedOf sl) }
 
 abbrev pub freed : Endpoint → ℕ → Endpoint
 freed g s = put g s freeSlot
@@ -95,9 +122,12 @@ named AnyTaken n sl = sameBytes (nameBytes (sl .name)) n
 abbrev pub sought : Sought → List ℕ → Slot → Bool
 sought w n sl = ofKind w (kind (sl .stage)) && named w n sl
 
+abbrev pub soughtIn : Sought → List ℕ → Stored → Bool
+soughtIn w n s = sought w n (slotOf s)
+
 -- the lowest slot that is sought, or 32
 abbrev pub lowest : Sought → List ℕ → Endpoint → ℕ
-lowest w n g = firstAt (sought w n) (g .slots)
+lowest w n g = firstAt (soughtIn w n) (g .slots)
 
 abbrev pub isSlot : ℕ → Bool
 isSlot i = ltb i 32

@@ -1,13 +1,11 @@
 // The state of a handshake endpoint (01's gate), and its slots.
 use crate::flags::good_flags;
 use crate::refusal::Refusal;
+use crate::stored::Stored;
+use crate::stored::store;
 use names::Name;
 ghost use mathlib.Core.Path.{_≡_};
-ghost use mathlib.Core.Bool.{_&&_};
 ghost use Prim.Native.Nat.{_<_};
-ghost use Rattle.wire.specs.Run.{sameBytes};
-ghost use Rattle.wire.specs.Lookup.{firstAt};
-ghost use Rattle.names.specs.Held.{nameBytes};
 ghost use Rattle.handshake.specs.Endpoint as state;
 ghost use Rattle.handshake.specs.Plans as plans;
 ghost use Rattle.handshake.specs.Calls.{notMade, newOf};
@@ -37,11 +35,12 @@ pub struct Slot {
     pub challenge: u32,
 }
 
+#[repr(C)]
 pub struct Endpoint {
     pub(crate) name: Name,
     pub(crate) flags: u64,
     pub(crate) creation: u32,
-    pub(crate) slots: [Slot; 32],
+    pub(crate) slots: [Stored; 32],
 }
 
 // Whether an endpoint was made.
@@ -147,7 +146,7 @@ fn unused(name: Name, flags: u64, creation: u32) -> Endpoint
         name,
         flags,
         creation,
-        slots: [free_slot(); 32],
+        slots: [store(free_slot()); 32],
     }
 }
 
@@ -158,33 +157,6 @@ fn not_made(why: Refusal) -> Made
     Made {
         making: Making::NotMade(why),
         endpoint: e,
-    }
-}
-
-impl Slot {
-    // Whether a slot that may be meant has this peer.
-    fn is_peer(self, meant: bool, name: &[u8]) -> bool
-        ensures { λ r. ⌜ r ≡ (meant && sameBytes (nameBytes (self .name)) (now (name .entry))) ⌝ }
-    {
-        if !meant {
-            return false;
-        }
-        let n = self.name;
-        n.is(name)
-    }
-
-    fn is_sought(self, what: Sought, name: &[u8]) -> bool
-        ensures { λ r. ⌜ r ≡ state.sought what (now (name .entry)) self ⌝ }
-    {
-        let stage = self.stage;
-        let k = kind_of(stage);
-        match what {
-            Sought::AnyFree => k == 0,
-            Sought::AcceptedFrom => self.is_peer(k == 1, name),
-            Sought::StartedTo => self.is_peer(k == 2, name),
-            Sought::ConnectedTo => self.is_peer(k == 3, name),
-            Sought::AnyTaken => self.is_peer(k != 0, name),
-        }
     }
 }
 
@@ -213,12 +185,13 @@ impl Endpoint {
         if 32 <= at {
             return free_slot();
         }
-        self.slots[at]
+        let s = self.slots[at];
+        s.slot()
     }
 
     // The lowest slot that is sought, or 32.
     pub(crate) fn find(self, what: Sought, name: &[u8]) -> usize
-        ensures { λ r. ⌜ r ≡ firstAt (state.sought what (now (name .entry))) (self .slots) ⌝ }
+        ensures { λ r. ⌜ r ≡ state.lowest what (now (name .entry)) self ⌝ }
     {
         let mut i: usize = 0;
         while i < 32 {
@@ -236,7 +209,7 @@ impl Endpoint {
         ensures { λ r. ⌜ r ≡ state.put self at slot ⌝ }
     {
         let mut e = self;
-        e.slots[at] = slot;
+        e.slots[at] = store(slot);
         e
     }
 

@@ -1,0 +1,93 @@
+use mathlib.Core.Path.{sym, _∙_, ap, ap₂}
+use Prim.Native.Nat.{ℕ}
+use Rattle.birkenschuh.specs.Gate.{numbersOf, tells}
+use borrow.Author.Needs.{needs}
+use Rattle.birkenschuh.proofs.endpoint.numbers_of.Statement.{statement}
+use Rattle.birkenschuh.proofs.endpoint.numbers_of.Tie as tie
+
+enum-known-a : tie.Need-enum-known-a
+enum-known-a c = search needs
+
+number-requires : tie.Need-number-requires
+number-requires c κs = search needs
+
+cast-tell : tie.Need-cast-tell
+cast-tell c = search needs
+
+tell-requires : tie.Need-tell-requires
+tell-requires c κs = search needs
+
+enum-known-a-2 : tie.Need-enum-known-a-2
+enum-known-a-2 c = search needs
+
+tell-requires-2 : tie.Need-tell-requires-2
+tell-requires-2 c κs = search needs
+
+enum-known-a-3 : tie.Need-enum-known-a-3
+enum-known-a-3 c = search needs
+
+tell-requires-3 : tie.Need-tell-requires-3
+tell-requires-3 c κs = search needs
+
+enum-told : tie.Need-enum-told
+enum-told c = search needs
+
+tell-requires-4 : tie.Need-tell-requires-4
+tell-requires-4 c κs = search needs
+
+enum-known-a-4 : tie.Need-enum-known-a-4
+enum-known-a-4 c = search needs
+
+number-requires-2 : tie.Need-number-requires-2
+number-requires-2 c κs = search needs
+
+cast-tell-2 : tie.Need-cast-tell-2
+cast-tell-2 c = search needs
+
+freed-number-requires : tie.Need-freed-number-requires
+freed-number-requires c κs = search needs
+
+tell-requires-5 : tie.Need-tell-requires-5
+tell-requires-5 c κs = search needs
+
+returns : tie.Need-returns
+returns c = c .tell .ensures ∙ ap (λ (n : ℕ). tells n 0 0 32 0) (c .before .number .ensures) ∙ sym (ap numbersOf (c .before .before .before .a .given .1))
+
+returns-2 : tie.Need-returns-2
+returns-2 c = c .tell2 .ensures ∙ sym (ap numbersOf (c .before .before .a2 .given .1))
+
+returns-3 : tie.Need-returns-3
+returns-3 c = c .tell3 .ensures ∙ sym (ap numbersOf (c .before .before .a3 .given .1))
+
+returns-4 : tie.Need-returns-4
+returns-4 c = c .tell4 .ensures ∙ sym (ap numbersOf (c .before .enum-told .given .1))
+
+returns-5 : tie.Need-returns-5
+returns-5 c =
+    c .tell5 .ensures ∙ ap₂ (λ (s o : ℕ). tells 0 s 0 o (c .before .before .before .before .a4 .given .0 .1 .1 .0)) (c .before .before .number2 .ensures) (c .before .freed-number .ensures)
+    ∙ sym (ap numbersOf (c .before .before .before .before .a4 .given .1))
+
+pub numbers-of-spec : {M : Type 1} → statement M
+numbers-of-spec =
+    tie.close
+    (tie.spec
+    enum-known-a
+    number-requires
+    cast-tell
+    tell-requires
+    enum-known-a-2
+    tell-requires-2
+    enum-known-a-3
+    tell-requires-3
+    enum-told
+    tell-requires-4
+    enum-known-a-4
+    number-requires-2
+    cast-tell-2
+    freed-number-requires
+    tell-requires-5
+    returns
+    returns-2
+    returns-3
+    returns-4
+    returns-5)

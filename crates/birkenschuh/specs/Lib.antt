@@ -1,0 +1,2 @@
+pub mod Mapper
+pub mod Gate

@@ -1,0 +1,83 @@
+// C10: the longest name and one byte more, the most extra bytes and one more, the last place and one
+// more.
+ghost use Prim.Native.Nat.{_≤_};
+use crate::ask;
+use crate::print::first;
+use crate::print::word;
+use epmd::Registry;
+
+fn digit(n: usize) -> u8 {
+    (48 + n % 10) as u8
+}
+
+// An ALIVE2 frame of port 4370 and versions 6 and 5, by the lengths of its name and extra bytes. The
+// name begins with two digits, a number of its own; all behind is 'a'.
+fn alive2(nlen: usize, elen: usize, number: usize) -> [u8; 400]
+    requires { ⌜ (nlen ≤ 256) × (elen ≤ 129) ⌝ }
+{
+    let len = 13 + nlen + elen;
+    let mut f = [97u8; 400];
+    wire::put_bytes(&mut f, 13 + nlen, &wire::be16(elen as u16));
+    wire::put_bytes(&mut f, 0, &wire::be16(len as u16));
+    wire::put_bytes(&mut f, 2, b"\x78\x11\x12\x4d\x00\x00\x06\x00\x05");
+    wire::put_bytes(&mut f, 11, &wire::be16(nlen as u16));
+    f[13] = digit(number / 10);
+    f[14] = digit(number);
+    f
+}
+
+// A first registration with a name and extra bytes of these lengths.
+fn show_lengths(nlen: usize, elen: usize)
+    requires { ⌜ (nlen ≤ 256) × (elen ≤ 129) ⌝ }
+{
+    let made = Registry::new(4369, 1);
+    let frame = alive2(nlen, elen, 0);
+    ask(made.registry, 1, first(&frame, 15 + nlen + elen));
+}
+
+// Registers a name and a connection, both told by a number.
+fn register(r: Registry, number: usize) -> Registry
+    requires { ⌜ number ≤ 64 ⌝ }
+{
+    let frame = alive2(4, 0, number);
+    let mut out = [0u8; 17604];
+    let served = r.request(number as u32, first(&frame, 19), &mut out);
+    served.registry
+}
+
+// The mapper after this many registrations.
+fn registered(many: usize) -> Registry
+    requires { ⌜ many ≤ 64 ⌝ }
+{
+    let made = Registry::new(4369, 1);
+    let mut r = made.registry;
+    let mut i: usize = 0;
+    while i < many {
+        r = register(r, i);
+        i += 1;
+    }
+    r
+}
+
+// One registration more.
+fn show_next(many: usize)
+    requires { ⌜ many ≤ 64 ⌝ }
+{
+    let frame = alive2(4, 0, many);
+    ask(registered(many), many as u32, first(&frame, 19));
+}
+
+pub(crate) fn show_bounds() {
+    word(b"C10 name of 255 bytes: ");
+    show_lengths(255, 0);
+    word(b"C10 name of 256 bytes: ");
+    show_lengths(256, 0);
+    word(b"C10 Elen 128: ");
+    show_lengths(4, 128);
+    word(b"C10 Elen 129: ");
+    show_lengths(4, 129);
+    word(b"C10 64th registration: ");
+    show_next(63);
+    word(b"C10 65th registration: ");
+    show_next(64);
+}
