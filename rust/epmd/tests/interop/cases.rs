@@ -140,6 +140,7 @@ fn questions() -> Vec<Case> {
 
 fn connections() -> Vec<Case> {
     let ride = alive2("ride", 4370);
+    let taken = [ride.clone()];
     let ask = port_please2("ride");
     let byte_by_byte = |request: &[u8]| Case {
         segments: request.iter().map(|&byte| vec![byte]).collect(),
@@ -147,11 +148,11 @@ fn connections() -> Vec<Case> {
         ..case("PORT_PLEASE2 byte by byte", Vec::new())
     };
     vec![
-        byte_by_byte(&ask).after(&[ride.clone()]),
-        case("two requests in one segment", [&ask[..], NAMES].concat()).after(&[ride.clone()]),
+        byte_by_byte(&ask).after(&taken),
+        case("two requests in one segment", [&ask[..], NAMES].concat()).after(&taken),
         case("two requests apart", ask.clone())
             .then(NAMES.to_vec())
-            .after(&[ride.clone()]),
+            .after(&taken),
         case(
             "ALIVE2 and NAMES in one segment",
             [&ride[..], NAMES].concat(),
@@ -162,7 +163,7 @@ fn connections() -> Vec<Case> {
         case("ALIVE2, then an unknown tag", ride.clone()).then(frame(b"?")),
         case("ALIVE2 of a name taken, then ALIVE2", ride.clone())
             .then(alive2("other", 4371))
-            .after(&[ride]),
+            .after(&taken),
     ]
 }
 
