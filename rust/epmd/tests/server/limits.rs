@@ -1,7 +1,7 @@
 //! Bounds: connections, descriptors, memory, time.
 
 use std::io::Write;
-use std::net::TcpStream;
+use std::net::{Shutdown, TcpStream};
 use std::thread::sleep;
 use std::time::{Duration, Instant};
 
@@ -139,4 +139,29 @@ fn without_descriptors_the_others_are_served_and_the_rest_wait() {
     drop(silent);
     let reply = read_for(&mut waiting, PATIENCE);
     assert!(reply.bytes.ends_with(b"name ride at port 4370\n"));
+}
+
+/// The mapper does not read what such a node sends, and must see its end all the same.
+#[test]
+fn a_node_that_reads_nothing_loses_its_name_when_it_ends() {
+    let mapper = Mapper::start(&[]);
+    let (mut node, _) = register(mapper.port, "ride", 4370);
+    // So few at a time that they and the end behind them fit into what the system holds for the
+    // mapper.
+    let requests = alive2("x", 1).repeat(500);
+    let answered = || mapper.process.lines().len();
+    let mut held_back = false;
+    while !held_back {
+        let all = answered() + 500;
+        node.write_all(&requests).unwrap();
+        let start = Instant::now();
+        while answered() < all && !held_back {
+            sleep(Duration::from_millis(1));
+            held_back = start.elapsed() > Duration::from_secs(1);
+        }
+        assert!(all < 500_000, "never held back");
+    }
+    assert_eq!(names(mapper.port), ["ride"]);
+    node.shutdown(Shutdown::Write).unwrap();
+    eventually("ride is gone", || names(mapper.port).is_empty());
 }

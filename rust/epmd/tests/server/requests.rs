@@ -160,6 +160,9 @@ fn of_two_requests_in_one_segment_the_first_is_answered() {
     let mapper = Mapper::start(&[]);
     let two = [&port_please2("ride")[..], NAMES].concat();
     assert_eq!(ask(mapper.port, &two), b"w\x01");
+    // More than is read with the request.
+    let many = [&port_please2("ride")[..], &NAMES.repeat(1000)].concat();
+    assert_eq!(ask(mapper.port, &many), b"w\x01");
     let two = [&alive2("ride", 4370)[..], &port_please2("ride")].concat();
     let replies = ask(mapper.port, &two);
     assert_eq!(replies[..2], [118, 0]);
