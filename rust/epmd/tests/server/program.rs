@@ -1,6 +1,7 @@
 //! Options, signals, the log, `--names`.
 
 use std::io::Write;
+use std::net::TcpStream;
 
 use crate::support::*;
 
@@ -145,4 +146,9 @@ fn ipv6_and_a_port_given_are_served() {
     process.line_with(&format!("listening address=[::1]:{port}"));
     let output = run(&["--names", "--address=::1", "--port", &port]);
     assert_eq!(text(&output.stdout[..]), "NAME   PORT\n");
+    let mut client = TcpStream::connect(format!("[::1]:{port}")).unwrap();
+    client.write_all(&frame(b"k")).unwrap();
+    let peer = client.local_addr().unwrap();
+    assert!(peer.to_string().starts_with("[::1]:"));
+    process.line_with(&format!("tag=107 peer={peer} "));
 }

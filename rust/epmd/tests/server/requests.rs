@@ -184,7 +184,7 @@ fn a_slow_reader_gets_every_byte_and_holds_up_nobody() {
         let requests = alive2("x", 1).repeat(TIMES);
         writer.write_all(&[&requests[..], NAMES].concat()).unwrap();
     });
-    let answered = || mapper.process.lines().len();
+    let answered = || mapper.process.line_count();
     let mut before = 0;
     eventually("the mapper reads no further", || {
         let after = std::mem::replace(&mut before, answered());

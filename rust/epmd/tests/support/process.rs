@@ -45,6 +45,10 @@ impl Process {
         self.lines.lock().expect("lines").clone()
     }
 
+    pub fn line_count(&self) -> usize {
+        self.lines.lock().expect("lines").len()
+    }
+
     /// The first line with these words, once it is there.
     pub fn line_with(&self, words: &str) -> String {
         let find = || self.lines().into_iter().find(|line| line.contains(words));
