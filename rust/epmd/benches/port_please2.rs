@@ -12,8 +12,9 @@ use std::time::{Duration, Instant};
 
 use support::*;
 
-const ROUNDS: usize = 7;
-const ROUND: Duration = Duration::from_millis(1000);
+const ROUNDS: usize = 31;
+/// Short, so that both mappers meet the same moods of the machine.
+const ROUND: Duration = Duration::from_millis(250);
 
 /// What the rounds of one mapper gave.
 #[derive(Default)]

@@ -34,6 +34,8 @@ pub struct Server {
     connections: Table,
     /// Accepted, and not looked at yet.
     new: VecDeque<u64>,
+    /// Somebody waited to be accepted in the last turn too.
+    crowded: bool,
     /// When connections have to be looked at for their deadlines: never later than the first of these.
     sweep_at: Option<Instant>,
     /// When accepting goes on.
@@ -68,6 +70,7 @@ impl Server {
             mapper: Mapper::new(registry, options.idle_timeout, log),
             connections: Table::new(options.max_connections),
             new: VecDeque::new(),
+            crowded: false,
             sweep_at: None,
             rests_until: None,
             turned_away: Limiter::default(),
@@ -99,6 +102,7 @@ impl Server {
             if accepts {
                 self.accept(now)?;
             }
+            self.crowded = accepts;
         }
     }
 
@@ -153,10 +157,11 @@ impl Server {
         }
     }
 
-    /// Takes in who waits outside. Their requests have often come by then, and are answered at once.
+    /// Takes in who waits outside. Who comes alone has hardly sent its request yet, and is waited for.
+    /// In a crowd it has, by the time that it is accepted, and is answered without a wait.
     fn accept(&mut self, now: Instant) -> io::Result<()> {
         let mut outcome = Ok(());
-        for _ in 0..ACCEPTS {
+        for _ in 0..if self.crowded { ACCEPTS } else { 1 } {
             match sys::accept(&self.listener) {
                 Ok((stream, peer)) => self.greet(stream, peer, now),
                 Err(error) => match error.kind() {
@@ -170,7 +175,10 @@ impl Server {
             }
         }
         while let Some(token) = self.new.pop_front() {
-            self.attend(token, READABLE, now);
+            match self.crowded {
+                true => self.attend(token, READABLE, now),
+                false => self.settle(token, Ok(Next::Wait)),
+            }
         }
         outcome
     }
