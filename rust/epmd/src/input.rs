@@ -197,12 +197,18 @@ mod tests {
     }
 
     #[test]
-    fn an_announcement_alone_takes_no_memory() {
-        let (mut input, mut budget) = (Input::default(), Budget::new(0));
-        let mut source = Drip(b"\xff\xffxxxx", 3);
-        input.fill(&mut source, &mut budget).unwrap();
-        input.fill(&mut source, &mut budget).unwrap();
-        assert_eq!(input.buffer.capacity(), SMALL);
+    fn a_long_frame_takes_memory_as_its_bytes_come() {
+        let frame = long_frame();
+        let (mut input, mut budget) = (Input::default(), Budget::new(70_000));
+        for (come, held) in [(6, SMALL), (512, SMALL), (513, 1024), (1025, 2048)] {
+            let mut source = Drip(&frame[input.filled..come], 65_537);
+            while input.fill(&mut source, &mut budget).unwrap() == Filled::Some {
+                if source.0.is_empty() {
+                    break;
+                }
+            }
+            assert_eq!((input.filled, input.buffer.capacity()), (come, held));
+        }
     }
 
     #[test]

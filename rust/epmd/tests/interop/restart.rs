@@ -5,6 +5,18 @@ use std::time::{Duration, Instant};
 use crate::node::Node;
 use crate::support::*;
 
+/// The creations that a mapper gave, by its log.
+fn creations(mapper: &Mapper) -> Vec<u32> {
+    let lines = mapper.process.lines();
+    let given = lines.iter().filter(|line| line.contains(" registered "));
+    given
+        .map(|line| {
+            let word = line.split(' ').find_map(|it| it.strip_prefix("creation="));
+            word.and_then(|it| it.parse().ok()).expect("a creation")
+        })
+        .collect()
+}
+
 fn nodes_return_after(signal: &str) -> Duration {
     let mut first = Mapper::start(&[]);
     let port = first.port;
@@ -21,15 +33,17 @@ fn nodes_return_after(signal: &str) -> Duration {
     let time = start.elapsed();
     let mut c = Node::start("c", port);
     assert_eq!(c.eval("net_adm:ping('a@127.0.0.1')."), "pong");
-    // A node keeps its creation for life, whatever the reply to its second registration says. The new mapper gives
-    // none that the old one gave.
+    // A node keeps its creation for life, whatever the reply to its second registration says.
     assert_eq!(a.number("erts_internal:get_creation()."), creation);
+    let (before, after) = (creations(&first), creations(&second));
     assert!(
-        c.number("erts_internal:get_creation().")
-            .wrapping_sub(creation)
-            > 1
+        before.contains(&creation) && after.len() == 3,
+        "{before:?} {after:?}"
     );
-    second.process.line_with("registered name=a");
+    assert!(
+        after.iter().all(|it| !before.contains(it)),
+        "{before:?} {after:?}"
+    );
     time
 }
 
