@@ -1,8 +1,9 @@
-//! PORT_PLEASE2 over loopback: this mapper and the real epmd in turn, in one run. `make bench-epmd` runs it.
+//! PORT_PLEASE2 over loopback: this mapper and the real epmd in turn, in one run. `make bench-epmd`
+//! runs it.
 //!
-//! A client connects, asks, reads until the mapper closes and begins again, as nodes do. Prints a table: requests a
-//! second (the median of the rounds, and their range), the 99th percentile of the time for one, and the mapper's
-//! processor time for one.
+//! A client connects, asks, reads until the mapper closes and begins again, as nodes do. Prints a
+//! table: requests a second (the median of the rounds, and their range), the 99th percentile of the
+//! time for one, and the mapper's processor time for one.
 
 #[path = "../tests/support/mod.rs"]
 mod support;

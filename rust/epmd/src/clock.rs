@@ -18,13 +18,15 @@ pub fn first_creation() -> u32 {
     creation_at(since_1970())
 }
 
-/// Milliseconds, cut to 32 bits, and never 0. A mapper steps its creation with each registration, so as long as there
-/// are fewer than a thousand of them a second, the clock of a restart is ahead of all that was given.
+/// Milliseconds, cut to 32 bits, and never 0. A mapper steps its creation with each registration,
+/// so as long as there are fewer than a thousand of them a second, the clock of a restart is ahead
+/// of all that was given.
 fn creation_at(time: Duration) -> u32 {
     (time.as_millis() as u32).max(1)
 }
 
-/// The date by the calendar's cycle of 400 years, counted from a 1st of March so that the leap day comes last.
+/// The date by the calendar's cycle of 400 years, counted from a 1st of March so that the leap day
+/// comes last.
 fn format(seconds: u64) -> String {
     let (days, second) = (seconds / 86_400 + 719_468, seconds % 86_400);
     let (cycle, day) = (days / 146_097, days % 146_097);

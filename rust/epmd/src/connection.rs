@@ -1,4 +1,5 @@
-//! One connection: what it has sent, what it has not yet taken of its reply, and what it has registered.
+//! One connection: what it has sent, what it has not yet taken of its reply, and what it has
+//! registered.
 
 use std::io::{self, Write};
 use std::net::{Shutdown, SocketAddr, TcpStream};
@@ -14,8 +15,9 @@ pub struct Connection {
     pub peer: SocketAddr,
     /// Counts connections from the start of the program, for the log.
     pub number: u64,
-    /// The number by which the registry knows this connection: unlike `number` it never grows past what a registry
-    /// can tell apart, and it is given anew only when this connection has been closed there.
+    /// The number by which the registry knows this connection: unlike `number` it never grows past
+    /// what a registry can tell apart, and it is given anew only when this connection has been
+    /// closed there.
     pub slot: u32,
     pub input: Input,
     /// The rest of a reply. While there is any, nothing is read, so a peer cannot pile up replies.
@@ -99,7 +101,8 @@ impl Connection {
         self.input.borrowed() + self.unsent.len()
     }
 
-    /// What the poll has to tell of it. A peer that reads nothing may end all the same, and that end is the node's.
+    /// What the poll has to tell of it. A peer that reads nothing may end all the same, and that
+    /// end is the node's.
     pub fn interest(&self) -> u32 {
         match (self.all_sent(), &self.node) {
             (true, _) => READABLE,

@@ -2,12 +2,14 @@
 
 use std::io::{self, Read};
 
-/// What a connection may hold without asking the budget. The longest request that is ever answered has 398 bytes (an
-/// ALIVE2 with 255 bytes of name and 128 of extra); all longer frames are assembled only to be refused.
+/// What a connection may hold without asking the budget. The longest request that is ever answered
+/// has 398 bytes (an ALIVE2 with 255 bytes of name and 128 of extra); all longer frames are
+/// assembled only to be refused.
 pub const SMALL: usize = 512;
 
-/// Bytes that all connections together may hold beyond their own small buffers, in long frames and in replies that a
-/// peer has not taken. Who asks for more than is left is closed, so the sum is bounded whatever the peers do.
+/// Bytes that all connections together may hold beyond their own small buffers, in long frames and
+/// in replies that a peer has not taken. Who asks for more than is left is closed, so the sum is
+/// bounded whatever the peers do.
 pub struct Budget {
     left: usize,
 }
@@ -89,8 +91,8 @@ impl Input {
         }
     }
 
-    /// The buffer doubles as bytes come, up to the frame announced: a peer that announces much and sends little holds
-    /// little.
+    /// The buffer doubles as bytes come, up to the frame announced: a peer that announces much and
+    /// sends little holds little.
     fn make_room(&mut self, budget: &mut Budget) -> bool {
         let now = self.buffer.len();
         if self.filled < now {
@@ -106,7 +108,8 @@ impl Input {
         enough
     }
 
-    /// The frame at the front is answered. What stands behind it moves up, and a long buffer is given back.
+    /// The frame at the front is answered. What stands behind it moves up, and a long buffer is
+    /// given back.
     pub fn drop_frame(&mut self, budget: &mut Budget) {
         let Some(frame) = self.frame().map(<[u8]>::len) else {
             return;

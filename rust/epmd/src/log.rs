@@ -1,4 +1,5 @@
-//! Log lines on standard output: for people (`registered name=a port=35219 ...`) or as JSON, from the same fields.
+//! Log lines on standard output: for people (`registered name=a port=35219 ...`) or as JSON, from
+//! the same fields.
 
 use std::io::{self, Write};
 
@@ -72,7 +73,8 @@ pub fn plain_text(text: &str) -> String {
     }
 }
 
-/// A JSON string. Control characters above 127 need no escape by the standard, but a terminal may obey them.
+/// A JSON string. Control characters above 127 need no escape by the standard, but a terminal may
+/// obey them.
 pub fn json_text(text: &str) -> String {
     let mut out = String::from("\"");
     for letter in text.chars() {

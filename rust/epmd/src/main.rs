@@ -1,5 +1,5 @@
-//! `birken-epmd`: an Erlang port mapper (EPMD) for real nodes. What it answers is decided by the proved mapper of the
-//! crate `birkenschuh`; here are the sockets, the clock and the log.
+//! `birken-epmd`: an Erlang port mapper (EPMD) for real nodes. What it answers is decided by the
+//! proved mapper of the crate `birkenschuh`; here are the sockets, the clock and the log.
 
 mod clock;
 mod connection;

@@ -1,7 +1,8 @@
 //! The proved mapper with what a host adds to it: who is closed when, and what the log says.
 //!
-//! The mapper is one value and a request takes it some microseconds, so one thread serves all connections in turn.
-//! Threads would only wait for each other at the registry, and could not be bounded as simply.
+//! The mapper is one value and a request takes it some microseconds, so one thread serves all
+//! connections in turn. Threads would only wait for each other at the registry, and could not be
+//! bounded as simply.
 
 use std::time::{Duration, Instant};
 
@@ -12,7 +13,8 @@ use crate::input::{Budget, Filled};
 use crate::log::{Log, Value};
 use crate::sys;
 
-/// 64 frames of the greatest length at a time, or 238 unread replies of the greatest length. See `Budget`.
+/// 64 frames of the greatest length at a time, or 238 unread replies of the greatest length. See
+/// `Budget`.
 const LARGE_BYTES: usize = 4 << 20;
 
 const ALIVE2_REQ: u8 = 120;
@@ -53,8 +55,8 @@ impl Mapper {
         now + self.idle
     }
 
-    /// The connection is ready: sends or reads once, and answers what is complete. An error says why
-    /// it is to be closed.
+    /// The connection is ready: sends or reads once, and answers what is complete. An error says
+    /// why it is to be closed.
     pub fn attend(&mut self, it: &mut Connection, ready: u32, now: Instant) -> Result<Next, Why> {
         if it.all_sent() {
             match it.input.fill(&mut it.stream, &mut self.budget) {
@@ -108,7 +110,8 @@ impl Mapper {
     }
 
     fn registered(&mut self, it: &mut Connection) {
-        // Without this the node of a machine that vanished would keep its name for ever. A failure costs only that.
+        // Without this the node of a machine that vanished would keep its name for ever. A failure
+        // costs only that.
         let _ = sys::keep_alive(&it.stream);
         it.node = self
             .registry

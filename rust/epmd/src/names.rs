@@ -40,8 +40,8 @@ fn request(mapper: SocketAddr) -> io::Result<Vec<u8>> {
     Ok(reply)
 }
 
-/// Reads `name N at port P` and a newline, again and again. A name may have a newline of its own, so a line that does
-/// not end like one goes on in the next.
+/// Reads `name N at port P` and a newline, again and again. A name may have a newline of its own,
+/// so a line that does not end like one goes on in the next.
 fn parse(text: &str) -> Vec<Node> {
     let mut nodes = Vec::new();
     let mut so_far = String::new();

@@ -50,8 +50,9 @@ impl Options {
             address: Ipv4Addr::LOCALHOST.into(),
             port: 4369,
             first_creation: clock::first_creation(),
-            // A registry has 64 nodes; the others are callers that stay for microseconds, or silent. With a few
-            // descriptors more this is half of what a process may usually open (1,024).
+            // A registry has 64 nodes; the others are callers that stay for microseconds, or
+            // silent. With a few descriptors more this is half of what a process may usually open
+            // (1,024).
             max_connections: 512,
             idle_timeout: Duration::from_secs(60),
             quiet: false,

@@ -17,8 +17,9 @@ use crate::table::Table;
 
 /// Accepted in a turn before the others are looked after again.
 const ACCEPTS: usize = 64;
+/// How many may wait outside.
 const BACKLOG: i32 = 4096;
-/// The longest reply has 17,604 bytes.
+/// What the system holds for a connection, each way. The longest reply has 17,604 bytes.
 const BUFFERS: i32 = 32 << 10;
 /// How long nothing is accepted once the system has no descriptor or memory left for a connection.
 const REST: Duration = Duration::from_millis(100);
@@ -36,7 +37,8 @@ pub struct Server {
     new: VecDeque<u64>,
     /// Somebody waited to be accepted in the last turn too.
     crowded: bool,
-    /// When connections have to be looked at for their deadlines: never later than the first of these.
+    /// When connections have to be looked at for their deadlines: never later than the first of
+    /// these.
     sweep_at: Option<Instant>,
     /// When accepting goes on.
     rests_until: Option<Instant>,
@@ -157,8 +159,8 @@ impl Server {
         }
     }
 
-    /// Takes in who waits outside. Who comes alone has hardly sent its request yet, and is waited for.
-    /// In a crowd it has, by the time that it is accepted, and is answered without a wait.
+    /// Takes in who waits outside. Who comes alone has hardly sent its request yet, and is waited
+    /// for. In a crowd it has, by the time that it is accepted, and is answered without a wait.
     fn accept(&mut self, now: Instant) -> io::Result<()> {
         let mut outcome = Ok(());
         for _ in 0..if self.crowded { ACCEPTS } else { 1 } {
@@ -203,7 +205,8 @@ impl Server {
         }
     }
 
-    /// No descriptor or memory is left: those who wait outside are taken in later, and nobody inside is disturbed.
+    /// No descriptor or memory is left: those who wait outside are taken in later, and nobody
+    /// inside is disturbed.
     fn rest(&mut self, error: &io::Error, now: Instant) -> io::Result<()> {
         if let Some(times) = self.accept_errors.count(now) {
             let text = error.to_string();

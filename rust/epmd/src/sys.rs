@@ -1,5 +1,6 @@
-//! What the standard library lacks of the operating system: epoll, signals as a descriptor, socket settings. The
-//! only unsafe code of this program. The constants and layouts are those of Linux on x86-64, as the library below is.
+//! What the standard library lacks of the operating system: epoll, signals as a descriptor, socket
+//! settings. The only unsafe code of this program. The constants and layouts are those of Linux on
+//! x86-64, as the library below is.
 
 use std::fs::File;
 use std::io::{self, Read};
@@ -23,7 +24,8 @@ const NON_BLOCKING: c_int = 0o4_000;
 const ADD: c_int = 1;
 const CHANGE: c_int = 3;
 const AF_INET: u16 = 2;
-/// The longest address: family 2, port 2, flow 4, address 16, scope 4. IPv4: family 2, port 2, address 4.
+/// The longest address: family 2, port 2, flow 4, address 16, scope 4. IPv4: family 2, port 2,
+/// address 4.
 const SOCKADDR_IN6: usize = 28;
 const SOL_SOCKET: c_int = 1;
 const SO_SNDBUF: c_int = 7;
@@ -94,7 +96,8 @@ impl Poll {
         check(unsafe { epoll_ctl(self.0.as_raw_fd(), how, fd.as_raw_fd(), &mut event) }).map(drop)
     }
 
-    /// Waits until something is ready, or `timeout` is over, or a signal came: then nothing is ready.
+    /// Waits until something is ready, or `timeout` is over, or a signal came: then nothing is
+    /// ready.
     pub fn wait<'a>(
         &self,
         events: &'a mut [Event],
@@ -121,7 +124,8 @@ impl Signals {
     /// The signals no longer end the process.
     pub fn new() -> io::Result<Signals> {
         let mut set = MaybeUninit::<SignalSet>::uninit();
-        // SAFETY: sigemptyset fills the set before it is read; the descriptor is new and owned by nothing else.
+        // SAFETY: sigemptyset fills the set before it is read; the descriptor is new and owned by
+        // nothing else.
         unsafe {
             check(sigemptyset(set.as_mut_ptr()))?;
             check(sigaddset(set.as_mut_ptr(), SIGTERM))?;
@@ -149,8 +153,8 @@ impl AsRawFd for Signals {
     }
 }
 
-/// Lets more connections wait to be accepted than the 128 of the standard library: a burst above them would meet
-/// retries of a second. The system's own bound still holds.
+/// Lets more connections wait to be accepted than the 128 of the standard library: a burst above
+/// them would meet retries of a second. The system's own bound still holds.
 pub fn set_backlog(listener: &TcpListener, backlog: c_int) -> io::Result<()> {
     // SAFETY: no memory is passed.
     check(unsafe { listen(listener.as_raw_fd(), backlog) }).map(drop)
@@ -162,7 +166,8 @@ pub fn accept(listener: &TcpListener) -> io::Result<(TcpStream, SocketAddr)> {
     let mut length = SOCKADDR_IN6 as u32;
     let into = address.as_mut_ptr().cast();
     let flags = CLOSE_ON_EXEC | NON_BLOCKING;
-    // SAFETY: no more than `length` bytes are written; the descriptor is new and owned by nothing else.
+    // SAFETY: no more than `length` bytes are written; the descriptor is new and owned by nothing
+    // else.
     let stream = unsafe {
         let fd = check(accept4(listener.as_raw_fd(), into, &mut length, flags))?;
         TcpStream::from_raw_fd(fd)

@@ -9,8 +9,8 @@ use crate::support::*;
 
 const CLIENTS: usize = 200;
 const TIME: Duration = Duration::from_secs(30);
-/// Nodes that stay. With the clients that register too, and their nodes whose end is not seen yet, the 64 places are
-/// never all taken, so no Result 1 is due.
+/// Nodes that stay. With the clients that register too, and their nodes whose end is not seen yet,
+/// the 64 places are never all taken, so no Result 1 is due.
 const STAYING: u16 = 32;
 const REGISTERING: usize = 16;
 
@@ -58,7 +58,8 @@ fn visit(port: u16, client: usize, visits: u64, mixed: &mut Mixed) {
     }
 }
 
-/// Lets all clients visit until the time is over; meanwhile gives the memory of the mapper after a sixth of it.
+/// Lets all clients visit until the time is over; meanwhile gives the memory of the mapper after a
+/// sixth of it.
 fn run_crowd(mapper: &Mapper) -> (u64, u64) {
     let (visits, over) = (AtomicU64::new(0), AtomicBool::new(false));
     let memory = thread::scope(|scope| {

@@ -1,6 +1,8 @@
-//! Where the two mappers differ: the case, what each does, and the row of docs/INTEROP.md that says why.
+//! Where the two mappers differ: the case, what each does, and the row of docs/INTEROP.md that says
+//! why.
 //!
-//! What a mapper does: its replies, whether it keeps the connection open, and the names that it has then.
+//! What a mapper does: its replies, whether it keeps the connection open, and the names that it has
+//! then.
 
 pub struct Difference {
     pub case: &'static str,

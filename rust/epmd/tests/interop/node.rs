@@ -4,7 +4,8 @@ use std::process::Command;
 
 use crate::support::*;
 
-/// Reads expressions from standard input, prints each value behind "=> ", and halts when the input ends.
+/// Reads expressions from standard input, prints each value behind "=> ", and halts when the input
+/// ends.
 const LOOP: &str = "\
     Loop = fun Again() ->
         case io:get_line(\"\") of

@@ -1,4 +1,5 @@
-//! The same requests to this mapper and to the real epmd. Each difference has to be one that docs/INTEROP.md names.
+//! The same requests to this mapper and to the real epmd. Each difference has to be one that
+//! docs/INTEROP.md names.
 
 use std::collections::BTreeSet;
 use std::io::Write;
@@ -15,7 +16,8 @@ const DOCUMENT: &str = include_str!("../../../../docs/INTEROP.md");
 /// How long a mapper may take to reply or to close; what is still open then stays open.
 const WAIT: Duration = Duration::from_millis(300);
 
-/// Runs a case and tells what came back, whether the connection was closed, and which names there are then.
+/// Runs a case and tells what came back, whether the connection was closed, and which names there
+/// are then.
 fn outcome(case: &Case, port: u16) -> String {
     let before: Vec<TcpStream> = case
         .before
