@@ -4,7 +4,12 @@ HEADER := include/birkenschuh.h
 RATTLE := $(shell find crates -type f \( -path '*/src/*' -o -path '*/specs/*' -o -path '*/proofs/*' \)) crates.txt
 CARGO := cargo --quiet
 
-.PHONY: lib check-host bench
+.PHONY: check lib check-host bench
+
+# Every crate proved and every program run (not the edits that must be refused: those are the gate's), then the tests from outside.
+check:
+	rt check
+	$(MAKE) check-host
 
 # Proves the crates below the library and builds it; nothing is done where nothing changed.
 lib: $(LIB)
@@ -18,9 +23,11 @@ $(LIB): $(RATTLE)
 	wait $$pid || { tail -40 target/staticlib.log; exit 1; }
 	@touch $@
 
-# The wrapper's tests, and the library against an implementation of its own: some millions of calls.
+# The header from C; the wrapper's tests; the library against an implementation of its own, some millions of calls.
 check-host: lib
-	cd rust && $(CARGO) test --release
+	cc -std=c11 -O2 -Wall -Wextra -Werror -Iinclude include/tests/header.c $(LIB) -o target/header
+	target/header
+	cd rust && $(CARGO) test --release --workspace --exclude bench
 
 # One table: ours beside a peer, same input, same run (docs/PERFORMANCE.md).
 bench: lib

@@ -7,8 +7,8 @@
  *
  * A refusal is the number of the papers' table, and 0 is none. A refused call writes no output byte.
  *
- * The library takes and gives states by value (the functions named .._value), which is the form that is proved with no walk by hand; the
- * functions over pointers are inline and do nothing but pass the state on. docs/HOSTS.md is the chapter for hosts.
+ * bks_registry_request works on the registry where it lies. The other functions over a state are inline here, and do nothing but pass it by
+ * value to one named .._value and store what comes back. docs/HOSTS.md is the chapter for hosts.
  */
 #ifndef BIRKENSCHUH_H
 #define BIRKENSCHUH_H
@@ -51,11 +51,9 @@ typedef struct {
 } bks_registration;
 
 typedef struct { bks_registry registry; uint32_t refusal; } bks_registry_made;
-typedef struct { bks_registry registry; uint32_t refusal; size_t written; } bks_registry_told;
 typedef struct { bks_registry registry; bool freed; } bks_registry_closed;
 
 bks_registry_made bks_registry_new_value(uint16_t port, uint32_t first_creation);
-bks_registry_told bks_registry_request_value(bks_registry r, uint32_t connection, const uint8_t *frame, size_t frame_len, uint8_t *out, size_t out_len);
 bks_registry_closed bks_registry_close_value(bks_registry r, uint32_t connection);
 bks_registration bks_registry_entry_value(bks_registry r, uint32_t place);
 uint32_t bks_registry_next_value(bks_registry r);
@@ -69,11 +67,7 @@ static inline uint32_t bks_registry_new(bks_registry *r, uint16_t port, uint32_t
 }
 
 /* One frame from a connection: the reply is written from the first output byte on. */
-static inline bks_written bks_registry_request(bks_registry *r, uint32_t connection, const uint8_t *frame, size_t frame_len, uint8_t *out, size_t out_len) {
-    bks_registry_told t = bks_registry_request_value(*r, connection, frame, frame_len, out, out_len);
-    *r = t.registry;
-    return (bks_written){ t.refusal, t.written };
-}
+bks_written bks_registry_request(bks_registry *r, uint32_t connection, const uint8_t *frame, size_t frame_len, uint8_t *out, size_t out_len);
 
 /* The end of a connection: whether it had a registration, which is then gone. */
 static inline bool bks_registry_close(bks_registry *r, uint32_t connection) {

@@ -191,7 +191,7 @@ impl fmt::Debug for Endpoint {
 /// use birkenschuh::Cookies;
 ///
 /// let cookies = Cookies { own: b"", standard: b"monster" }; // no cookie of this peer's own
-/// assert!(cookies.own.is_empty());
+/// assert_eq!(format!("{cookies:?}"), "Cookies"); // a secret does not belong in a log
 /// ```
 #[derive(Clone, Copy)]
 pub struct Cookies<'a> {
@@ -202,7 +202,6 @@ pub struct Cookies<'a> {
 }
 
 impl fmt::Debug for Cookies<'_> {
-    // A secret does not belong in a log.
     fn fmt(&self, f: &mut fmt::Formatter<'_>) -> fmt::Result {
         f.write_str("Cookies")
     }

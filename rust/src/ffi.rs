@@ -5,8 +5,8 @@
 //! it. Null with length 0 is an empty run. What an output lies in must not overlap anything else
 //! that is lent.
 //!
-//! The library itself takes and gives states by value; as in the header, the functions over
-//! pointers do nothing but pass the state on.
+//! `bks_registry_request` works on the registry where it lies. The library's other functions take
+//! and give states by value; as in the header, those over pointers do nothing but pass the state on.
 
 #![allow(non_camel_case_types)]
 

@@ -153,6 +153,19 @@ fn numbers_are_not_cut() {
     assert_ne!(endpoint.slot(0), Slot::default());
 }
 
+/// The greatest numbers through the functions over pointers.
+#[test]
+fn the_last_place_and_slot() {
+    let (registry, endpoint) = (raw_registry(), raw_endpoint());
+    // SAFETY: the states are a registry and an endpoint.
+    unsafe {
+        for number in [63, 64, u32::MAX] {
+            assert_eq!(ffi::bks_registry_entry(&*registry, number).name_len, 0);
+            assert_eq!(ffi::bks_endpoint_slot(&*endpoint, number).stage, 0);
+        }
+    }
+}
+
 /// A clone goes its own way.
 #[test]
 fn clones_are_apart() {

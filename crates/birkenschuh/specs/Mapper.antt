@@ -2,25 +2,21 @@
 use Prim.Native.Nat.{ℕ}
 use Rattle.epmd.specs.declared.registry.Registry.{Registry}
 use Rattle.epmd.specs.declared.registry.Making.{Making}
-use Rattle.epmd.specs.declared.registry.Making.the-variants.{Ready, Refused as RefusedMaking}
+use Rattle.epmd.specs.declared.registry.Making.the-variants.{Ready, Refused}
 use Rattle.epmd.specs.declared.registry.Made.{Made}
 use Rattle.epmd.specs.declared.serve.Answer.{Answer}
-use Rattle.epmd.specs.declared.serve.Answer.the-variants.{Written, Refused}
-use Rattle.epmd.specs.declared.serve.Served.{Served}
+use Rattle.epmd.specs.declared.serve.Answer.the-variants as answer
 use Rattle.epmd.specs.Requests.{refusalNumber}
 use Rattle.birkenschuh.specs.declared.registry.RegistryMade.{RegistryMade}
-use Rattle.birkenschuh.specs.declared.registry.RegistryTold.{RegistryTold}
+use Rattle.birkenschuh.specs.declared.registry.Written.{Written}
 
 abbrev pub making : Registry → Making → RegistryMade
 making g Ready = record { registry = g; refusal = 0 }
-making g (RefusedMaking r) = record { registry = g; refusal = refusalNumber r }
+making g (Refused r) = record { registry = g; refusal = refusalNumber r }
 
 abbrev pub madeOf : Made → RegistryMade
 madeOf m = making (m .registry) (m .making)
 
-abbrev pub answered : Registry → Answer → RegistryTold
-answered g (Written n) = record { registry = g; refusal = 0; written = n }
-answered g (Refused r) = record { registry = g; refusal = refusalNumber r; written = 0 }
-
-abbrev pub toldOf : Served → RegistryTold
-toldOf s = answered (s .registry) (s .answer)
+abbrev pub writtenOf : Answer → Written
+writtenOf (answer.Written n) = record { refusal = 0; written = n }
+writtenOf (answer.Refused r) = record { refusal = refusalNumber r; written = 0 }

@@ -3,15 +3,14 @@ ghost use mathlib.Core.Path.{_≡_};
 ghost use lib.ListN.{length};
 ghost use Rattle.wire.specs.Output.{written};
 ghost use Rattle.epmd.specs.Registry.{newOf, closeOf, entryAt};
-ghost use Rattle.epmd.specs.Serve.{told as served, requestOf};
-ghost use Rattle.birkenschuh.specs.Mapper.{madeOf, toldOf};
+ghost use Rattle.epmd.specs.Serve.{requestOf};
+ghost use Rattle.birkenschuh.specs.Mapper.{madeOf, writtenOf};
 use epmd::Answer;
 use epmd::Closed;
 use epmd::Made;
 use epmd::Making;
 use epmd::Registration;
 use epmd::Registry;
-use epmd::Served;
 
 // A registry, and why it was refused.
 #[repr(C)]
@@ -22,10 +21,14 @@ pub struct RegistryMade {
 
 // What a request tells: the count written is 0 beside a refusal.
 #[repr(C)]
-pub struct RegistryTold {
-    pub registry: Registry,
+pub struct Written {
     pub refusal: u32,
     pub written: usize,
+}
+
+struct Told {
+    registry: Registry,
+    answer: Written,
 }
 
 fn made(m: Made) -> RegistryMade
@@ -45,22 +48,32 @@ fn made(m: Made) -> RegistryMade
     }
 }
 
-fn told(s: Served) -> RegistryTold
-    ensures { λ r. ⌜ r ≡ toldOf s ⌝ }
+fn numbers(answer: Answer) -> Written
+    ensures { λ r. ⌜ r ≡ writtenOf answer ⌝ }
 {
-    let registry = s.registry;
-    let answer = s.answer;
     match answer {
-        Answer::Written(n) => RegistryTold {
-            registry,
+        Answer::Written(n) => Written {
             refusal: 0,
             written: n,
         },
-        Answer::Refused(why) => RegistryTold {
-            registry,
+        Answer::Refused(why) => Written {
             refusal: epmd::number_of(why),
             written: 0,
         },
+    }
+}
+
+fn request(registry: Registry, connection: u32, frame: &[u8], out: &mut [u8]) -> Told
+    ensures { λ r. ⌜ (r .registry ≡ requestOf registry connection (now (frame .entry)) (length (now (out .entry))) .registry)
+        × (r .answer ≡ writtenOf (requestOf registry connection (now (frame .entry)) (length (now (out .entry))) .answer))
+        × (now (out .exit) ≡ written (requestOf registry connection (now (frame .entry)) (length (now (out .entry))) .bytes) (now (out .entry))) ⌝ }
+{
+    let served = registry.request(connection, frame, out);
+    let after = served.registry;
+    let answer = served.answer;
+    Told {
+        registry: after,
+        answer: numbers(answer),
     }
 }
 
@@ -71,17 +84,23 @@ pub extern "C" fn bks_registry_new_value(port: u16, first: u32) -> RegistryMade
     made(Registry::new(port, first))
 }
 
+// A frame from a connection, on a registry that is changed where it lies: the call that a server
+// makes for every request, and by value it costs half as much again.
 #[no_mangle]
-pub extern "C" fn bks_registry_request_value(
-    registry: Registry,
+pub extern "C" fn bks_registry_request(
+    r: &mut Registry,
     connection: u32,
     frame: &[u8],
     out: &mut [u8],
-) -> RegistryTold
-    ensures { λ r. ⌜ r ≡ toldOf (served (requestOf registry connection (now (frame .entry)) (length (now (out .entry))))) ⌝ }
-    ensures { λ _. ⌜ now (out .exit) ≡ written (requestOf registry connection (now (frame .entry)) (length (now (out .entry))) .bytes) (now (out .entry)) ⌝ }
+) -> Written
+    ensures { λ x. ⌜ (now (r .exit) ≡ requestOf (now (r .entry)) connection (now (frame .entry)) (length (now (out .entry))) .registry)
+        × (x ≡ writtenOf (requestOf (now (r .entry)) connection (now (frame .entry)) (length (now (out .entry))) .answer))
+        × (now (out .exit) ≡ written (requestOf (now (r .entry)) connection (now (frame .entry)) (length (now (out .entry))) .bytes) (now (out .entry))) ⌝ }
 {
-    told(registry.request(connection, frame, out))
+    let registry = *r;
+    let told = request(registry, connection, frame, out);
+    *r = told.registry;
+    told.answer
 }
 
 #[no_mangle]

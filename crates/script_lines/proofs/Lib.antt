@@ -6,3 +6,5 @@ pub mod ReadBack
 pub mod TakeLaws
 pub mod PartLaws
 pub mod WholeCase
+pub mod ConnLine
+pub mod Promises

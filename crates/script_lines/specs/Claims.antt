@@ -7,6 +7,8 @@ use Rattle.wire.specs.Claims.{Octets}
 use Rattle.wire.specs.Decimal.{decimal, value}
 use Rattle.script_lines.specs.declared.script.Script.{Script}
 use Rattle.script_lines.specs.Text.{isHex, unhex, hexOf, isDecimal}
+use Rattle.script_lines.specs.declared.line.Item.the-variants.{Conn}
+use Rattle.script_lines.specs.Line.{itemOf, connKey}
 use Rattle.script_lines.specs.Lines.{linesFrom, printedFrom, printed, takeOf}
 
 -- bytes written as text are read back (ReadBack.hex-back)
@@ -24,6 +26,12 @@ DecimalBack = (n : ℕ) → n < 2 ^ 32 → ((isDecimal (decimal n) ≡ true) × 
 -- and no other text is taken (ReadBack.decimal-taken)
 abbrev pub DecimalTaken : Type 0
 DecimalTaken = (cs : List ℕ) → isDecimal cs ≡ true → ((value cs < 2 ^ 32) × (cs ≡ decimal (value cs)))
+
+-- a line names connection n exactly if it is `conn=` and the decimal text of n, a number below 2 to the 32 (ConnLine.conn-line)
+abbrev pub ConnLine : Type 0
+ConnLine =
+    (l : List ℕ) (n : ℕ)
+    → (itemOf l ≡ Conn n → ((n < 2 ^ 32) × (l ≡ connKey ++ decimal n))) × (n < 2 ^ 32 → itemOf (connKey ++ decimal n) ≡ Conn n)
 
 -- what a run has still to print, with some characters of a line held and so much of the input to come
 abbrev pub toPrint : Script → List ℕ → List ℕ → List ℕ
@@ -49,3 +57,14 @@ wholeOut =
 
 abbrev pub WholeCase : Type 0
 WholeCase = (printed wholeIn ≡ wholeOut) × (printed (wholeIn ++ (10 ∷ [])) ≡ wholeOut)
+
+-- ---- all of it (Promises.promises): a claim that is not proved is missed here
+
+pub record Promises : Type 0 where
+  pub hex-back : HexBack
+  pub hex-only : HexOnly
+  pub decimal-back : DecimalBack
+  pub decimal-taken : DecimalTaken
+  pub conn-line : ConnLine
+  pub parts-print : PartsPrint
+  pub whole-case : WholeCase

@@ -52,13 +52,6 @@ struct Made {
 }
 
 #[repr(C)]
-struct Told {
-    registry: bks_registry,
-    refusal: u32,
-    written: usize,
-}
-
-#[repr(C)]
 struct Closed {
     registry: bks_registry,
     freed: bool,
@@ -66,18 +59,23 @@ struct Closed {
 
 extern "C" {
     fn bks_registry_new_value(port: u16, first_creation: u32) -> Made;
-    fn bks_registry_request_value(
-        r: bks_registry,
+    fn bks_registry_close_value(r: bks_registry, connection: u32) -> Closed;
+    fn bks_registry_entry_value(r: bks_registry, place: u32) -> bks_registration;
+    fn bks_registry_next_value(r: bks_registry) -> u32;
+    fn bks_registry_port_value(r: bks_registry) -> u16;
+
+    /// Answers one request.
+    ///
+    /// # Safety
+    /// As said at the head of this module.
+    pub fn bks_registry_request(
+        r: *mut bks_registry,
         connection: u32,
         frame: *const u8,
         frame_len: usize,
         out: *mut u8,
         out_len: usize,
-    ) -> Told;
-    fn bks_registry_close_value(r: bks_registry, connection: u32) -> Closed;
-    fn bks_registry_entry_value(r: bks_registry, place: u32) -> bks_registration;
-    fn bks_registry_next_value(r: bks_registry) -> u32;
-    fn bks_registry_port_value(r: bks_registry) -> u16;
+    ) -> bks_written;
 }
 
 /// Makes a registry at `r`. 0, or the refusal's number, and then nothing is made.
@@ -90,26 +88,6 @@ pub unsafe fn bks_registry_new(r: *mut bks_registry, port: u16, first_creation: 
         r.write(made.registry);
     }
     made.refusal
-}
-
-/// Answers one request.
-///
-/// # Safety
-/// As said at the head of this module.
-pub unsafe fn bks_registry_request(
-    r: *mut bks_registry,
-    connection: u32,
-    frame: *const u8,
-    frame_len: usize,
-    out: *mut u8,
-    out_len: usize,
-) -> bks_written {
-    let told = bks_registry_request_value(*r, connection, frame, frame_len, out, out_len);
-    *r = told.registry;
-    bks_written {
-        refusal: told.refusal,
-        written: told.written,
-    }
 }
 
 /// Frees the place that `connection` registered. Whether there was one.

@@ -33,18 +33,22 @@ fn name_messages_are_read_field_by_field() {
             refused += 1;
         } else {
             assert_eq!(answer.unwrap().stage, Stage::AwaitsReply, "{}", seen.note);
-            let expected = Slot {
-                stage: Stage::AwaitsReply,
-                name: seen.name().to_vec(),
-                flags: seen.flags(),
-                creation: seen.number("creation"),
-                challenge: 9,
-            };
-            assert_eq!(endpoint.slot(slot), expected);
+            assert_eq!(endpoint.slot(slot), recorded(&seen, Stage::AwaitsReply));
             read += 1;
         }
     }
     assert_eq!((read, refused), (30, 18));
+}
+
+/// What a slot holds once the message is read and our challenge, 9, is sent.
+fn recorded(seen: &Seen, stage: Stage) -> Slot {
+    Slot {
+        stage,
+        name: seen.name().to_vec(),
+        flags: seen.flags(),
+        creation: seen.number("creation"),
+        challenge: 9,
+    }
 }
 
 /// Every challenge message is read. The peer's challenge is recorded nowhere: it shows in the
@@ -68,14 +72,7 @@ fn challenge_messages_are_read_field_by_field() {
         let challenge = seen.number("challenge").to_string();
         let digest = md5(&[challenge.as_bytes(), b"monster"].concat());
         assert_eq!(out[..answer.unwrap().written], reply(9, digest));
-        let expected = Slot {
-            stage: Stage::AwaitsAck,
-            name: seen.name().to_vec(),
-            flags: seen.flags(),
-            creation: seen.number("creation"),
-            challenge: 9,
-        };
-        assert_eq!(endpoint.slot(slot), expected);
+        assert_eq!(endpoint.slot(slot), recorded(&seen, Stage::AwaitsAck));
         read += 1;
     }
     assert_eq!((read, refused), (18, 7));

@@ -8,6 +8,13 @@ pub mod frames;
 pub mod rng;
 pub mod tally;
 
+use std::str::FromStr;
+
+/// What a word of a written call says.
+pub fn number<T: FromStr>(word: &str) -> Result<T, String> {
+    word.parse().map_err(|_| format!("not a value: {word}"))
+}
+
 /// The bytes in hexadecimal, "-" for none.
 pub fn to_hex(bytes: &[u8]) -> String {
     if bytes.is_empty() {

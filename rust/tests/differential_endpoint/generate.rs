@@ -9,17 +9,9 @@ use crate::common::frames::*;
 use crate::common::rng::Rng;
 use crate::fields::{broken_name, flags, full_name, good_flags, near};
 
-const WORDS: [&[u8]; 17] = [
-    b"ok",
-    b"ok",
-    b"ok",
-    b"ok",
-    b"alive",
-    b"ok_simultaneous",
-    b"ok",
-    b"ok",
-    b"ok_simultaneous",
-    b"alive",
+/// Status words that move an initiator on, and others.
+const STATUS: [&[u8]; 3] = [b"ok", b"ok_simultaneous", b"alive"];
+const OTHER_STATUS: [&[u8]; 7] = [
     b"nok",
     b"not_allowed",
     b"true",
@@ -29,9 +21,8 @@ const WORDS: [&[u8]; 17] = [
     b"named:",
 ];
 
-const ALIVE_ANSWERS: [&[u8]; 8] = [
-    b"true", b"true", b"true", b"true", b"false", b"false", b"ok", b"tru",
-];
+const ALIVE_ANSWERS: [&[u8]; 2] = [b"true", b"false"];
+const OTHER_ANSWERS: [&[u8]; 4] = [b"ok", b"tru", b"true ", b""];
 
 const STAGES: [Stage; 6] = [
     Stage::AwaitsName,
@@ -95,8 +86,11 @@ impl Generator {
             return self.remake(rng);
         }
         if rng.chance(self.closes) {
+            // Connected slots too, or in the end every peer has one.
+            let any = rng.below(SLOTS);
+            let slot = slot(rng, model);
             return Call::Close {
-                slot: slot(rng, model),
+                slot: if rng.chance(60) { any } else { slot },
             };
         }
         // With nobody on the way, most messages would find a free slot.
@@ -104,26 +98,21 @@ impl Generator {
         if !idle && !rng.chance(self.beginnings) {
             return Call::Message(self.message(rng, model));
         }
-        if rng.chance(40) {
-            return Call::Arrive;
-        }
-        let name = match rng.below(10) {
-            0 => broken_name(rng),
-            1..=3 => self.peer(rng),
+        let name = match rng.below(20) {
+            0..=7 => None,
+            8 => Some(broken_name(rng)),
+            9..=10 => Some(self.peer(rng)),
             _ => self.stranger(rng, model),
         };
-        Call::Start {
-            name,
-            room: room(rng),
-        }
+        let room = room(rng);
+        name.map_or(Call::Arrive, |name| Call::Start { name, room })
     }
 
     /// A peer that has no slot, if a few tries find one.
-    fn stranger(&self, rng: &mut Rng, model: &model::Endpoint) -> Vec<u8> {
+    fn stranger(&self, rng: &mut Rng, model: &model::Endpoint) -> Option<Vec<u8>> {
         let has_slot = |name: &[u8]| (0..SLOTS).any(|at| *model.slot(at).name == *name);
-        let tries: Vec<Vec<u8>> = (0..4).map(|_| self.peer(rng)).collect();
-        let found = tries.iter().find(|name| !has_slot(name));
-        found.unwrap_or(&tries[0]).clone()
+        let mut tries = (0..4).map(|_| self.peer(rng));
+        tries.find(|name| !has_slot(name))
     }
 
     /// Another endpoint, or one that is refused.
@@ -195,8 +184,8 @@ impl Generator {
                 };
                 name_message(flags, creation, &name)
             }
-            Stage::AwaitsAlive => return status(word(rng, &ALIVE_ANSWERS)),
-            Stage::AwaitsStatus => return status(word(rng, &WORDS)),
+            Stage::AwaitsAlive => return status(word(rng, &ALIVE_ANSWERS, &OTHER_ANSWERS)),
+            Stage::AwaitsStatus => return status(word(rng, &STATUS, &OTHER_STATUS)),
             Stage::AwaitsChallenge => {
                 let name = if rng.chance(95) {
                     at.name.to_vec()
@@ -255,7 +244,9 @@ impl Generator {
     }
 }
 
-fn word<'a>(rng: &mut Rng, words: &[&'a [u8]]) -> &'a [u8] {
+/// Mostly one of the usual words.
+fn word<'a>(rng: &mut Rng, usual: &[&'a [u8]], others: &[&'a [u8]]) -> &'a [u8] {
+    let words = if rng.chance(75) { usual } else { others };
     words[rng.below(words.len())]
 }
 

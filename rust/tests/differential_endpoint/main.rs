@@ -4,13 +4,14 @@
 #[path = "../common/mod.rs"]
 mod common;
 
+mod borders;
 mod calls;
-mod directed;
 mod face;
 mod fields;
 mod generate;
 mod pair;
 mod reach;
+mod rules;
 
 use calls::Call;
 use common::differ::{report, Compared};
@@ -19,7 +20,8 @@ use common::tally::Tally;
 use generate::Generator;
 use pair::Pair;
 
-const CALLS: u64 = 1_000_000;
+/// Besides these there are starts, arrivals and closes.
+const MESSAGES: u64 = 1_000_000;
 
 /// All that 01 lets a call come to: every refusal at every stage that has it, every step.
 const EXPECTED: &str = "
@@ -84,17 +86,17 @@ fn sequence(seed: u64, tally: &mut Tally) {
 #[test]
 fn random_sequences() {
     let first = seed();
-    let wanted = CALLS * rounds();
+    let wanted = MESSAGES * rounds();
     let mut tally = Tally::default();
     let mut sequences = 0;
-    while tally.times("calls") < wanted {
+    while tally.times("messages") < wanted {
         sequence(Rng(first ^ sequences).next(), &mut tally);
         sequences += 1;
     }
     println!("seed {first}, {sequences} sequences");
     tally.print();
     tally.assert_seen(expected());
-    tally.assert_nothing_but(expected().chain(["calls"]));
+    tally.assert_nothing_but(expected().chain(["calls", "messages"]));
 }
 
 /// Runs the calls of the file that the variable `BIRKENSCHUH_REPLAY` names, or else a short sequence

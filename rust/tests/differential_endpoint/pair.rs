@@ -39,7 +39,10 @@ impl Compared for Pair {
                 same("the answer", answer, number(expected.close(*slot)))?;
                 tally.count(named("close", answer));
             }
-            Call::Message(message) => self.message(message, tally)?,
+            Call::Message(message) => {
+                tally.count("messages");
+                self.message(message, tally)?;
+            }
         }
         tally.count("calls");
         self.compare_states()

@@ -87,6 +87,23 @@ pub fn reach(stage: Stage) -> (Vec<Call>, usize) {
     }
 }
 
+/// The stages at which a message is taken in.
+pub const OPEN: [Stage; 6] = [
+    Stage::AwaitsName,
+    Stage::AwaitsAlive,
+    Stage::AwaitsReply,
+    Stage::AwaitsStatus,
+    Stage::AwaitsChallenge,
+    Stage::AwaitsAck,
+];
+
+/// For each frame, the calls that reach the stage and then a message of that frame.
+pub fn then(stage: Stage, frames: impl IntoIterator<Item = Vec<u8>>) -> Vec<Vec<Call>> {
+    let (before, slot) = reach(stage);
+    let with = |frame| [before.clone(), vec![message(slot, frame)]].concat();
+    frames.into_iter().map(with).collect()
+}
+
 /// Runs each list of calls on a fresh endpoint, through both faces of the library.
 pub fn run(lists: impl IntoIterator<Item = Vec<Call>>) -> Tally {
     let mut tally = Tally::default();

@@ -3,7 +3,7 @@
 use std::fmt;
 use std::str::FromStr;
 
-use crate::common::{from_hex, to_hex};
+use crate::common::{from_hex, number, to_hex};
 
 #[derive(Clone, Debug)]
 pub enum Call {
@@ -65,10 +65,6 @@ impl FromStr for Call {
             _ => return Err("not a call".to_string()),
         })
     }
-}
-
-fn number<T: FromStr>(word: &str) -> Result<T, String> {
-    word.parse().map_err(|_| format!("not a value: {word}"))
 }
 
 #[test]

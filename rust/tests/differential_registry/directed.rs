@@ -169,3 +169,34 @@ fn cuts() {
     assert_eq!(tally.times("refusal 3"), 2 * (23 + 1 + 3));
     assert_eq!(tally.times("refusal 5"), 2 * (23 - 3 + 3));
 }
+
+/// Bodies up to the longest, and lent bytes whose count wraps round to the frame's length.
+#[test]
+fn long_frames() {
+    let alive2 = |name: usize, extra: usize| {
+        let (name, extra) = (vec![b'n'; name], vec![b'e'; extra]);
+        let (name, extra) = (&name[..], &extra[..]);
+        Alive2 {
+            extra,
+            ..Alive2::of(name)
+        }
+        .frame()
+    };
+    let tally = run(1, || {
+        let mut calls = vec![
+            request(1, alive2(65_522, 0)),
+            request(1, alive2(65_394, 128)),
+            request(1, port_please2(&[b'n'; 65_534])),
+            request(1, alive2(1, 65_521)),
+            request(1, alive2(0, 65_522)),
+            request(1, frame(&[110; 65_535])),
+        ];
+        for frame in [&b"\x00\x01n"[..], b"\x00\x02zn", b"\x00\x00"] {
+            calls.extend([65_535, 65_536].map(|more| request(1, [frame, &vec![0; more]].concat())));
+        }
+        calls
+    });
+    assert_eq!(tally.times("refusal 6"), 2 * 3);
+    assert_eq!(tally.times("refusal 5"), 2 * 3);
+    assert_eq!(tally.times("refusal 3"), 2 * 6);
+}

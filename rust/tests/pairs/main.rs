@@ -14,7 +14,7 @@ use std::collections::HashMap;
 
 use birkenschuh::Stage;
 use common::tally::Tally;
-use links::{At, Left};
+use links::{Action, At, Left};
 use world::World;
 
 const SAME: [&[u8]; 2] = [b"monster", b"monster"];
@@ -32,6 +32,17 @@ struct Search {
     orders: HashMap<String, u128>,
     tally: Tally,
     may_connect: bool,
+    /// What has happened up to here.
+    path: Vec<Action>,
+}
+
+/// Shows how a state was reached in which something does not hold.
+impl Drop for Search {
+    fn drop(&mut self) {
+        if std::thread::panicking() {
+            println!("after these actions: {:#?}", self.path);
+        }
+    }
 }
 
 impl Search {
@@ -52,8 +63,10 @@ impl Search {
         let mut orders = 0;
         for action in &actions {
             let mut next = world.clone();
+            self.path.push(*action);
             next.act(*action, &mut self.tally);
             orders += self.explore(&next);
+            self.path.pop();
         }
         if actions.is_empty() {
             self.check_end(world);
@@ -111,11 +124,12 @@ fn search(what: &str, left: Left, cookies: [&'static [u8]; 2]) -> Tally {
         orders: HashMap::new(),
         tally: Tally::default(),
         may_connect,
+        path: Vec::new(),
     };
     let orders = search.explore(&World::new(left, cookies));
     println!("{what}: {} states, {orders} orders", search.orders.len());
     search.tally.print();
-    search.tally
+    std::mem::take(&mut search.tally)
 }
 
 /// One side starts: whatever the order, both end up connected.
@@ -230,5 +244,22 @@ fn cuts_and_closes() {
             "AwaitsStatus: refusal 14",
         ]);
         tally.assert_seen(["end: not connected"]);
+    }
+}
+
+/// A start more, a close, a cut and a wrong cookie, all in one run and wherever they come.
+#[test]
+fn everything() {
+    for starts in [[2, 1], [1, 2]] {
+        let left = Left {
+            starts,
+            closes: 1,
+            cuts: 1,
+            wrong_cookies: 1,
+        };
+        let tally = search("everything", left, SAME);
+        tally.assert_seen(["AwaitsAlive: refusal 3", "AwaitsAlive: refusal 14"]);
+        tally.assert_seen(["AwaitsReply: refusal 15", "AwaitsAck: refusal 15"]);
+        tally.assert_seen(["end: connected by a", "end: connected by b"]);
     }
 }

@@ -1,0 +1,22 @@
+use mathlib.Core.Path.{_∙_, ap}
+use borrow.Author.Needs.{needs}
+use Rattle.birkenschuh.specs.Mapper.{writtenOf}
+use Rattle.birkenschuh.proofs.registry.request.Statement.{statement}
+use Rattle.birkenschuh.proofs.registry.request.Tie as tie
+
+request-requires : tie.Need-request-requires
+request-requires c κs = search needs
+
+numbers-requires : tie.Need-numbers-requires
+numbers-requires c κs = search needs
+
+same-length : tie.Need-same-length
+same-length c = search needs
+
+returns : tie.Need-returns
+returns c =
+    let served = c .before .before .before .before .request .ensures .0 in
+    (ap (λ s. s .registry) served, c .numbers .ensures ∙ ap (λ s. writtenOf (s .answer)) served, c .before .before .before .before .request .ensures .1)
+
+pub request-spec : {M : Type 1} → statement M
+request-spec = tie.close (tie.spec request-requires numbers-requires same-length returns)

@@ -1,0 +1,113 @@
+/*
+ * The header from C: that its structs are laid out as the library's (a refusal or a count lies right behind a state, so a wrong size
+ * shows as a wrong number), 01's worked frames, a whole handshake, empty runs, and that a refusal writes nothing.
+ */
+#include "birkenschuh.h"
+
+#include <stdio.h>
+#include <string.h>
+
+static int failed;
+
+#define CHECK(fact) \
+    do { \
+        if (!(fact)) { \
+            printf("%s:%d: %s\n", __FILE__, __LINE__, #fact); \
+            failed = 1; \
+        } \
+    } while (0)
+
+#define RUN(text) (const uint8_t *)(text), sizeof(text) - 1
+
+static const uint64_t FLAGS = 0x1000104;
+
+static bool is_reply(bks_written w, const uint8_t *out, const char *bytes, size_t len) {
+    return w.refusal == 0 && w.written == len && memcmp(out, bytes, len) == 0;
+}
+
+#define IS(w, bytes) is_reply((w), out, (bytes), sizeof(bytes) - 1)
+
+static void mapper(void) {
+    static bks_registry r;
+    static uint8_t out[BKS_REGISTRY_OUTPUT], pattern[BKS_REGISTRY_OUTPUT];
+    const char alive2[] = "\x00\x11\x78\x11\x12\x4d\x00\x00\x06\x00\x05\x00\x04ride\x00\x00";
+    memset(out, 0xa5, sizeof out);
+    memset(pattern, 0xa5, sizeof pattern);
+
+    CHECK(bks_registry_new(&r, 4369, 0) == 17);
+    CHECK(bks_registry_new(&r, 4369, 4) == 0);
+    CHECK(bks_registry_port(&r) == 4369 && bks_registry_next(&r) == 4);
+
+    CHECK(bks_registry_request(&r, 1, NULL, 0, NULL, 0).refusal == 1);
+    CHECK(bks_registry_request(&r, 1, NULL, 0, out, sizeof out).refusal == 3);
+    CHECK(bks_registry_request(&r, 1, RUN("\x00\x01\x64"), out, sizeof out).refusal == 8);
+    CHECK(memcmp(out, pattern, sizeof out) == 0);
+
+    CHECK(IS(bks_registry_request(&r, 1, RUN(alive2), out, sizeof out), "\x76\x00\x00\x00\x00\x04"));
+    CHECK(memcmp(out + 6, pattern, sizeof out - 6) == 0);
+    CHECK(IS(bks_registry_request(&r, 2, RUN("\x00\x05zride"), out, sizeof out), "\x77\x00\x11\x12\x4d\x00\x00\x06\x00\x05\x00\x04ride\x00\x00"));
+    CHECK(IS(bks_registry_request(&r, 2, RUN("\x00\x03zno"), out, sizeof out), "\x77\x01"));
+    CHECK(IS(bks_registry_request(&r, 2, RUN(alive2), out, sizeof out), "\x76\x01\x00\x00\x00\x00"));
+
+    bks_registration e = bks_registry_entry(&r, 0);
+    CHECK(e.name_len == 4 && memcmp(e.name, "ride", 4) == 0 && e.name[4] == 0 && e.extra_len == 0);
+    CHECK(e.port == 4370 && e.kind == 77 && e.protocol == 0 && e.highest == 6 && e.lowest == 5);
+    CHECK(e.connection == 1 && e.creation == 4 && bks_registry_next(&r) == 5);
+    CHECK(bks_registry_entry(&r, 1).name_len == 0 && bks_registry_entry(&r, BKS_PLACES).name_len == 0);
+
+    CHECK(!bks_registry_close(&r, 2));
+    CHECK(bks_registry_close(&r, 1));
+    CHECK(bks_registry_entry(&r, 0).name_len == 0);
+}
+
+static void handshake(void) {
+    static bks_endpoint a, b;
+    uint8_t to_b[BKS_ENDPOINT_OUTPUT], to_a[BKS_ENDPOINT_OUTPUT];
+
+    CHECK(bks_endpoint_new(&a, RUN("a"), FLAGS, 7) == 6);
+    CHECK(bks_endpoint_new(&a, RUN("a@b"), 4, 7) == 9);
+    CHECK(bks_endpoint_new(&a, RUN("a@b"), FLAGS, 7) == 0);
+    CHECK(bks_endpoint_new(&b, RUN("c@d"), FLAGS, 8) == 0);
+    CHECK(bks_endpoint_start(&a, NULL, 0, to_b, sizeof to_b).refusal == 6);
+    CHECK(bks_endpoint_close(&a, 0) == 2);
+
+    bks_started s = bks_endpoint_start(&a, RUN("c@d"), to_b, sizeof to_b);
+    CHECK(s.refusal == 0 && s.slot == 0);
+    CHECK(s.written == 20 && memcmp(to_b, "\x00\x12N\x00\x00\x00\x00\x01\x00\x01\x04\x00\x00\x00\x07\x00\x03" "a@b", 20) == 0);
+    CHECK(bks_endpoint_start(&a, RUN("c@d"), to_a, sizeof to_a).refusal == 12);
+
+    CHECK(bks_endpoint_arrive(&b).slot == 0);
+    bks_arrived r = bks_endpoint_arrive(&b);
+    CHECK(r.refusal == 0 && r.slot == 1);
+    bks_answered w = bks_endpoint_message(&b, r.slot, to_b, s.written, 1234, NULL, 0, RUN("ck"), to_a, sizeof to_a);
+    CHECK(w.refusal == 0 && w.stage == BKS_AWAITS_REPLY && w.freed == BKS_SLOTS);
+    CHECK(w.written == 29 && memcmp(to_a, "\x00\x03sok", 5) == 0);
+
+    bks_answered x = bks_endpoint_message(&a, s.slot, to_a, 5, 99, NULL, 0, RUN("ck"), to_b, sizeof to_b);
+    CHECK(x.refusal == 0 && x.stage == BKS_AWAITS_CHALLENGE && x.written == 0);
+    x = bks_endpoint_message(&a, s.slot, to_a + 5, w.written - 5, 99, RUN("ck"), RUN("other"), to_b, sizeof to_b);
+    CHECK(x.refusal == 0 && x.stage == BKS_AWAITS_ACK && x.written == 23);
+    w = bks_endpoint_message(&b, r.slot, to_b, x.written, 0, NULL, 0, RUN("ck"), to_a, sizeof to_a);
+    CHECK(w.refusal == 0 && w.stage == BKS_CONNECTED && w.written == 19);
+    x = bks_endpoint_message(&a, s.slot, to_a, w.written, 0, NULL, 0, RUN("ck"), to_b, sizeof to_b);
+    CHECK(x.refusal == 0 && x.stage == BKS_CONNECTED && x.written == 0);
+
+    bks_slot q = bks_endpoint_slot(&b, r.slot);
+    CHECK(q.stage == BKS_CONNECTED && q.creation == 7 && q.challenge == 1234 && q.flags == FLAGS);
+    CHECK(q.name_len == 3 && memcmp(q.name, "a@b", 3) == 0 && q.name[3] == 0);
+    CHECK(bks_endpoint_slot(&b, BKS_SLOTS).stage == BKS_FREE);
+    x = bks_endpoint_message(&a, s.slot, to_a, 19, 0, NULL, 0, RUN("ck"), to_b, sizeof to_b);
+    CHECK(x.refusal == 10 && x.written == 0 && x.stage == 0 && x.freed == BKS_SLOTS);
+    CHECK(bks_endpoint_close(&b, r.slot) == 0 && bks_endpoint_close(&b, r.slot) == 2);
+}
+
+int main(void) {
+    uint8_t digest[16];
+    bks_md5(NULL, 0, digest);
+    CHECK(memcmp(digest, "\xd4\x1d\x8c\xd9\x8f\x00\xb2\x04\xe9\x80\x09\x98\xec\xf8\x42\x7e", 16) == 0);
+    CHECK(bks_node_name_ok(RUN("ride")) && !bks_node_name_ok(RUN("a@b")) && !bks_node_name_ok(NULL, 0));
+    mapper();
+    handshake();
+    puts(failed ? "header: failed" : "header: ok");
+    return failed;
+}

@@ -1,0 +1,16 @@
+//! One table: the proved library beside its peers. Same input, same run; a ratio above 1 is slower than
+//! the peer. What the buffers held before is said in docs/PERFORMANCE.md.
+
+mod digests;
+mod handshake;
+mod mapper;
+mod timing;
+
+fn main() {
+    println!("| case | ours, ns | peer | peer, ns | ratio |");
+    println!("|---|---|---|---|---|");
+    digests::md5();
+    digests::names();
+    mapper::mapper();
+    handshake::handshake();
+}
