@@ -2,8 +2,9 @@
 //! runs it.
 //!
 //! A client connects, asks, reads until the mapper closes and begins again, as nodes do. Prints a
-//! table: requests a second (the median of the rounds, and their range), the 99th percentile of the
-//! time for one, and the mapper's processor time for one.
+//! table: requests a second (the median of the rounds), the 99th percentile of the time for one,
+//! and the mapper's processor time for one; and how the rates of adjacent rounds compare, which
+//! tells the mappers apart on a machine that is not always equally fast.
 
 #[path = "../tests/support/mod.rs"]
 mod support;
@@ -52,39 +53,35 @@ fn round(process: &Process, port: u16, clients: usize, into: &mut Measured) {
     into.processor += process.processor_time() - before;
 }
 
-/// Prints a row and gives the rate.
-fn row(who: &str, clients: usize, mut it: Measured) -> f64 {
-    it.rates.sort_by(f64::total_cmp);
+fn row(who: &str, clients: usize, mut it: Measured) {
     it.times.sort();
-    let (least, median, most) = (it.rates[0], it.rates[ROUNDS / 2], it.rates[ROUNDS - 1]);
+    let rate = median(it.rates);
     let slow = it.times[it.times.len() * 99 / 100].as_secs_f64() * 1e6;
     let processor = it.processor as f64 * 1e4 / it.times.len() as f64;
-    println!("| {clients} | {who} | {median:.0} | {least:.0} to {most:.0} | {slow:.0} | {processor:.1} |");
-    median
+    println!("| {clients} | {who} | {rate:.0} | {slow:.0} | {processor:.1} |");
+}
+
+fn median(mut numbers: Vec<f64>) -> f64 {
+    numbers.sort_by(f64::total_cmp);
+    numbers[numbers.len() / 2]
 }
 
 fn main() {
     let (ours, real) = (Mapper::start(&["--quiet"]), RealEpmd::start());
     let _nodes = [ours.port, real.port].map(|port| register(port, "ride", 4370));
-    println!("| clients | mapper | requests a second | range | 99th percentile, µs | processor, µs a request |");
-    println!("|---|---|---|---|---|---|");
-    let mut slower = false;
+    println!("| clients | mapper | requests a second | 99th percentile, µs | processor, µs |");
+    println!("|---|---|---|---|---|");
+    let mut ratios = Vec::new();
     for clients in [1, 16, 64] {
         let (mut here, mut there) = (Measured::default(), Measured::default());
         for _ in 0..ROUNDS {
             round(&ours.process, ours.port, clients, &mut here);
             round(&real.process, real.port, clients, &mut there);
         }
-        let here = row("birken-epmd", clients, here);
-        let there = row("epmd (OTP)", clients, there);
-        slower |= here < there;
+        let pairs = here.rates.iter().zip(&there.rates);
+        ratios.push(median(pairs.map(|(here, there)| here / there).collect()));
+        row("birken-epmd", clients, here);
+        row("epmd (OTP)", clients, there);
     }
-    println!(
-        "{}",
-        if slower {
-            "slower than the real one somewhere"
-        } else {
-            "nowhere slower"
-        }
-    );
+    println!("times the real one's requests, the median of adjacent rounds: {ratios:.2?}");
 }
