@@ -1,0 +1,145 @@
+//! Log lines on standard output: for people (`registered name=a port=35219 ...`) or as JSON, from
+//! the same fields.
+
+use std::io::{self, Write};
+
+use crate::clock;
+
+#[derive(Clone, Copy)]
+pub enum Value<'a> {
+    Number(u64),
+    Text(&'a str),
+    /// A node's name: any UTF-8, newlines and terminal codes too.
+    Name(&'a [u8]),
+}
+
+pub struct Log {
+    pub json: bool,
+    pub quiet: bool,
+}
+
+impl Log {
+    /// Writes one line. A log that cannot be written is no reason to stop serving.
+    pub fn line(&self, event: &str, fields: &[(&str, Value)]) {
+        if !self.quiet {
+            self.line_even_if_quiet(event, fields);
+        }
+    }
+
+    pub fn line_even_if_quiet(&self, event: &str, fields: &[(&str, Value)]) {
+        let line = if self.json {
+            json_line(&clock::stamp(), event, fields)
+        } else {
+            text_line(&clock::stamp(), event, fields)
+        };
+        let mut out = io::stdout().lock();
+        let _ = out.write_all(line.as_bytes()).and_then(|()| out.flush());
+    }
+}
+
+fn json_line(time: &str, event: &str, fields: &[(&str, Value)]) -> String {
+    let mut line = format!("{{\"time\":\"{time}\",\"event\":{}", json_text(event));
+    for (key, value) in fields {
+        line += &format!(",\"{key}\":");
+        line += &match value {
+            Value::Number(number) => number.to_string(),
+            Value::Text(text) => json_text(text),
+            Value::Name(name) => json_text(&String::from_utf8_lossy(name)),
+        };
+    }
+    line + "}\n"
+}
+
+fn text_line(time: &str, event: &str, fields: &[(&str, Value)]) -> String {
+    let mut line = format!("{time} {event}");
+    for (key, value) in fields {
+        line += &format!(" {key}=");
+        line += &match value {
+            Value::Number(number) => number.to_string(),
+            Value::Text(text) => plain_text(text),
+            Value::Name(name) => plain_text(&String::from_utf8_lossy(name)),
+        };
+    }
+    line + "\n"
+}
+
+/// As it is if that cannot be misread, else in quotes, with what does not print escaped.
+pub fn plain_text(text: &str) -> String {
+    let plain = |letter: char| letter.is_alphanumeric() || ".:-_/[]".contains(letter);
+    if !text.is_empty() && text.chars().all(plain) {
+        text.to_string()
+    } else {
+        format!("{text:?}")
+    }
+}
+
+/// A JSON string. Control characters above 127 need no escape by the standard, but a terminal may
+/// obey them.
+pub fn json_text(text: &str) -> String {
+    let mut out = String::from("\"");
+    for letter in text.chars() {
+        match letter {
+            '"' => out += "\\\"",
+            '\\' => out += "\\\\",
+            '\n' => out += "\\n",
+            '\t' => out += "\\t",
+            '\r' => out += "\\r",
+            control if control.is_control() => out += &format!("\\u{:04x}", u32::from(control)),
+            other => out.push(other),
+        }
+    }
+    out + "\""
+}
+
+#[cfg(test)]
+mod tests {
+    use super::*;
+
+    const FIELDS: [(&str, Value); 3] = [
+        ("name", Value::Name("a\n\"é".as_bytes())),
+        ("port", Value::Number(4370)),
+        ("peer", Value::Text("[::1]:9")),
+    ];
+
+    #[test]
+    fn a_line_has_the_same_fields_for_people_and_as_json() {
+        assert_eq!(
+            text_line("T", "registered", &FIELDS),
+            "T registered name=\"a\\n\\\"é\" port=4370 peer=[::1]:9\n"
+        );
+        assert_eq!(
+            json_line("T", "registered", &FIELDS),
+            "{\"time\":\"T\",\"event\":\"registered\",\"name\":\"a\\n\\\"é\",\"port\":4370,\"peer\":\"[::1]:9\"}\n"
+        );
+    }
+
+    #[test]
+    fn json_escapes_what_json_and_terminals_need() {
+        for (text, json) in [
+            ("", "\"\""),
+            ("a b", "\"a b\""),
+            ("\"\\/", "\"\\\"\\\\/\""),
+            ("\n\r\t", "\"\\n\\r\\t\""),
+            ("\u{1}\u{1b}[2J", "\"\\u0001\\u001b[2J\""),
+            ("\u{7f}\u{9b}", "\"\\u007f\\u009b\""),
+            ("é日𝄞", "\"é日𝄞\""),
+        ] {
+            assert_eq!(json_text(text), json);
+        }
+    }
+
+    #[test]
+    fn names_that_could_be_misread_are_quoted() {
+        for (text, plain) in [
+            ("ride", "ride"),
+            ("é日", "é日"),
+            ("", "\"\""),
+            ("a b", "\"a b\""),
+            ("a=b", "\"a=b\""),
+            ("a\nb", "\"a\\nb\""),
+            ("\u{1b}[2J", "\"\\u{1b}[2J\""),
+        ] {
+            assert_eq!(plain_text(text), plain);
+        }
+    }
+}

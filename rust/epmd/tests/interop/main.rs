@@ -1,0 +1,14 @@
+//! Against Erlang/OTP: real nodes on this mapper, the same requests to it and to the real epmd, and
+//! a crowd of clients. `make check-interop` runs these; a plain `cargo test` does not, since they
+//! need `erl` and `epmd`.
+
+#[path = "../support/mod.rs"]
+mod support;
+
+mod cases;
+mod crowd;
+mod differences;
+mod node;
+mod nodes;
+mod restart;
+mod side_by_side;

@@ -1,0 +1,76 @@
+//! A real Erlang node that evaluates the lines it is sent.
+
+use std::process::Command;
+
+use crate::support::*;
+
+/// Reads expressions from standard input, prints each value behind "=> ", and halts when the input
+/// ends.
+const LOOP: &str = "\
+    Loop = fun Again() ->
+        case io:get_line(\"\") of
+            eof -> halt(0);
+            Line ->
+                {ok, Tokens, _} = erl_scan:string(Line),
+                {ok, Exprs} = erl_parse:parse_exprs(Tokens),
+                {value, Value, _} = erl_eval:exprs(Exprs, []),
+                io:format(\"=> ~0p~n\", [Value]),
+                Again()
+        end
+    end,
+    Loop().";
+
+pub struct Node {
+    pub process: Process,
+    answers: usize,
+}
+
+impl Node {
+    /// Starts `erl -name NAME@127.0.0.1` on the mapper at `port`. It need not come up.
+    pub fn spawn(name: &str, port: u16, words: &[&str]) -> Node {
+        let mut command = Command::new("erl");
+        command
+            .args(["-noshell", "-start_epmd", "false", "-setcookie", "monster"])
+            .args(["-name", &format!("{name}@127.0.0.1")])
+            .args(["-kernel", "inet_dist_use_interface", "{127,0,0,1}"])
+            .args(["+S", "1:1", "-eval", LOOP])
+            .args(words)
+            .env("ERL_EPMD_PORT", port.to_string())
+            .env("ERL_CRASH_DUMP_SECONDS", "0");
+        Node {
+            process: Process::start(&mut command),
+            answers: 0,
+        }
+    }
+
+    /// Starts it and waits until it is up.
+    pub fn start(name: &str, port: u16) -> Node {
+        let mut node = Node::spawn(name, port, &[]);
+        assert_eq!(node.eval("node()."), format!("'{name}@127.0.0.1'"));
+        node
+    }
+
+    /// The value of an expression, as Erlang prints it.
+    pub fn eval(&mut self, expression: &str) -> String {
+        self.process.write_line(expression);
+        let answer = |process: &Process, at: usize| {
+            let lines = process.lines();
+            let mut values = lines.iter().filter_map(|line| line.strip_prefix("=> "));
+            values.nth(at).map(str::to_string)
+        };
+        let at = self.answers;
+        eventually(expression, || answer(&self.process, at).is_some());
+        self.answers += 1;
+        answer(&self.process, at).expect("seen before")
+    }
+
+    pub fn number(&mut self, expression: &str) -> u32 {
+        self.eval(expression).parse().expect(expression)
+    }
+
+    /// Stops it as an operator would.
+    pub fn stop(mut self) {
+        self.process.write_line("init:stop().");
+        assert!(self.process.wait().success());
+    }
+}

@@ -1,0 +1,9 @@
+//! The program from outside: over sockets, by its options and its log. Needs no Erlang.
+
+#[path = "../support/mod.rs"]
+mod support;
+
+mod limits;
+mod program;
+mod refusals;
+mod requests;

@@ -1,0 +1,204 @@
+//! Requests and the connections that they come on.
+
+use std::io::Write;
+use std::net::Shutdown;
+use std::thread::sleep;
+use std::time::{Duration, Instant};
+
+use crate::support::*;
+
+#[test]
+fn a_node_registers_is_found_and_listed() {
+    let mapper = Mapper::start(&["--first-creation", "4"]);
+    let port = mapper.port;
+    let (_node, creation) = register(port, "ride", 4370);
+    assert_eq!(creation, 4);
+    let found = b"w\x00\x11\x12M\x00\x00\x06\x00\x05\x00\x04ride\x00\x00";
+    assert_eq!(ask(port, &port_please2("ride")), found);
+    assert_eq!(ask(port, &port_please2("rid")), b"w\x01");
+    let mut list = u32::from(port).to_be_bytes().to_vec();
+    list.extend(b"name ride at port 4370\n");
+    assert_eq!(ask(port, NAMES), list);
+}
+
+#[test]
+fn the_connection_of_a_node_is_kept_and_its_end_is_the_end_of_the_name() {
+    let mapper = Mapper::start(&[]);
+    let (mut node, _) = register(mapper.port, "ride", 4370);
+    assert!(is_open(&mut node));
+    assert_eq!(names(mapper.port), ["ride"]);
+    drop(node);
+    eventually("ride is gone", || names(mapper.port).is_empty());
+    let line = mapper.process.line_with("left");
+    assert!(line.contains("name=ride") && line.contains("connection ended"));
+}
+
+#[test]
+fn a_half_closed_and_a_reset_connection_end_a_name_too() {
+    let mapper = Mapper::start(&[]);
+    let (mut half, _) = register(mapper.port, "half", 1);
+    half.shutdown(Shutdown::Write).unwrap();
+    assert!(read_for(&mut half, PATIENCE).closed);
+    assert!(names(mapper.port).is_empty());
+    // A socket that is closed with its reply unread is reset.
+    let reset = send(mapper.port, &alive2("reset", 1));
+    mapper.process.line_with("registered name=reset");
+    drop(reset);
+    eventually("reset is gone", || names(mapper.port).is_empty());
+}
+
+#[test]
+fn a_half_closed_client_still_gets_its_reply() {
+    let mapper = Mapper::start(&[]);
+    let mut client = connect(mapper.port);
+    client.write_all(&port_please2("ride")).unwrap();
+    client.shutdown(Shutdown::Write).unwrap();
+    let reply = read_for(&mut client, PATIENCE);
+    assert_eq!((&reply.bytes[..], reply.closed), (&b"w\x01"[..], true));
+}
+
+#[test]
+fn a_name_that_returns_gets_a_new_creation() {
+    let mapper = Mapper::start(&["--first-creation=4294967295"]);
+    for creation in [u32::MAX, 1, 2] {
+        let (node, given) = register(mapper.port, "ride", 4370);
+        assert_eq!(given, creation);
+        node.shutdown(Shutdown::Both).unwrap();
+    }
+}
+
+/// Whoever connects after the end of a node finds its name free, however soon that is.
+#[test]
+fn a_name_is_free_as_soon_as_its_connection_has_ended() {
+    let mapper = Mapper::start(&["--quiet"]);
+    for _ in 0..2000 {
+        let (node, _) = register(mapper.port, "ride", 4370);
+        // Dropped, it would live on in a process that another test is just starting.
+        node.shutdown(Shutdown::Both).unwrap();
+    }
+}
+
+#[test]
+fn byte_by_byte_senders_are_served_and_hold_up_nobody() {
+    let mapper = Mapper::start(&[]);
+    let mut slow = connect(mapper.port);
+    for byte in alive2("slow", 7) {
+        assert_eq!(ask(mapper.port, &port_please2("slow")), b"w\x01");
+        slow.write_all(&[byte]).unwrap();
+        sleep(Duration::from_millis(5));
+    }
+    assert_eq!(read_exactly(&mut slow, 6)[..2], [118, 0]);
+    assert_eq!(names(mapper.port), ["slow"]);
+}
+
+#[test]
+fn silent_clients_hold_up_nobody() {
+    let mapper = Mapper::start(&[]);
+    let beginnings: [&[u8]; 4] = [b"", b"\x00", b"\x00\x05", b"\xff\xffzzz"];
+    let silent: Vec<_> = (0..200)
+        .map(|at| send(mapper.port, beginnings[at % 4]))
+        .collect();
+    let start = Instant::now();
+    for _ in 0..100 {
+        assert_eq!(ask(mapper.port, &port_please2("ride")), b"w\x01");
+    }
+    assert!(start.elapsed() < Duration::from_secs(5));
+    drop(silent);
+}
+
+#[test]
+fn a_second_alive2_of_a_connection_gets_result_1_and_changes_nothing() {
+    let mapper = Mapper::start(&[]);
+    let (mut node, _) = register(mapper.port, "ride", 4370);
+    node.write_all(&alive2("other", 4371)).unwrap();
+    assert_eq!(read_exactly(&mut node, 6), [118, 1, 0, 0, 0, 0]);
+    assert!(is_open(&mut node));
+    assert_eq!(names(mapper.port), ["ride"]);
+    mapper.process.line_with("this connection has registered");
+}
+
+#[test]
+fn a_name_taken_gets_result_1_on_a_connection_that_may_try_again() {
+    let mapper = Mapper::start(&[]);
+    let (_node, _) = register(mapper.port, "ride", 4370);
+    let mut late = send(mapper.port, &alive2("ride", 4371));
+    assert_eq!(read_exactly(&mut late, 6), [118, 1, 0, 0, 0, 0]);
+    assert!(is_open(&mut late));
+    mapper.process.line_with("the name is registered");
+    late.write_all(&alive2("late", 4371)).unwrap();
+    assert_eq!(read_exactly(&mut late, 6)[..2], [118, 0]);
+    assert_eq!(names(mapper.port), ["ride", "late"]);
+}
+
+#[test]
+fn the_65th_node_gets_result_1_until_a_place_is_free() {
+    let mapper = Mapper::start(&[]);
+    let mut nodes: Vec<_> = (0..64)
+        .map(|at| register(mapper.port, &format!("n{at}"), at))
+        .collect();
+    let mut late = send(mapper.port, &alive2("late", 9));
+    assert_eq!(read_exactly(&mut late, 6), [118, 1, 0, 0, 0, 0]);
+    mapper.process.line_with("or all 64 places are taken");
+    drop(nodes.remove(17));
+    eventually("n17 is gone", || names(mapper.port).len() == 63);
+    register(mapper.port, "late", 9);
+}
+
+#[test]
+fn a_question_on_a_nodes_own_connection_is_answered_and_ends_both() {
+    let mapper = Mapper::start(&[]);
+    let (mut node, _) = register(mapper.port, "ride", 4370);
+    node.write_all(&port_please2("ride")).unwrap();
+    let reply = read_for(&mut node, PATIENCE);
+    assert_eq!((reply.bytes.len(), reply.closed), (18, true));
+    assert!(names(mapper.port).is_empty());
+    mapper.process.line_with("asked on its connection");
+}
+
+#[test]
+fn of_two_requests_in_one_segment_the_first_is_answered() {
+    let mapper = Mapper::start(&[]);
+    let two = [&port_please2("ride")[..], NAMES].concat();
+    assert_eq!(ask(mapper.port, &two), b"w\x01");
+    // More than is read with the request.
+    let many = [&port_please2("ride")[..], &NAMES.repeat(1000)].concat();
+    assert_eq!(ask(mapper.port, &many), b"w\x01");
+    let two = [&alive2("ride", 4370)[..], &port_please2("ride")].concat();
+    let replies = ask(mapper.port, &two);
+    assert_eq!(replies[..2], [118, 0]);
+    assert_eq!(replies[6..8], [119, 0]);
+}
+
+/// Requests without end to the reading: the replies fill the room of both sides, and the mapper
+/// reads no further until there is room again.
+#[test]
+fn a_slow_reader_gets_every_byte_and_holds_up_nobody() {
+    const TIMES: usize = 60_000;
+    let mapper = Mapper::start(&[]);
+    let nodes: Vec<_> = (0..64)
+        .map(|at| register(mapper.port, &format!("{at:0255}"), 65_535))
+        .collect();
+    let mut reader = connect(mapper.port);
+    let mut writer = reader.try_clone().unwrap();
+    let sender = std::thread::spawn(move || {
+        let requests = alive2("x", 1).repeat(TIMES);
+        writer.write_all(&[&requests[..], NAMES].concat()).unwrap();
+    });
+    let answered = || mapper.process.line_count();
+    let mut before = 0;
+    eventually("the mapper reads no further", || {
+        let after = std::mem::replace(&mut before, answered());
+        sleep(Duration::from_millis(300));
+        after == answered()
+    });
+    assert!((100..TIMES).contains(&before), "{before} were answered");
+    assert_eq!(ask(mapper.port, &port_please2("ride")), b"w\x01");
+    let reply = read_for(&mut reader, PATIENCE);
+    assert!(reply.closed);
+    let (results, list) = reply.bytes.split_at(6 * TIMES);
+    assert!(results.chunks(6).all(|it| it == [118, 1, 0, 0, 0, 0]));
+    assert_eq!(list, ask(mapper.port, NAMES));
+    assert_eq!(list.len(), 17_604);
+    sender.join().unwrap();
+    drop(nodes);
+}

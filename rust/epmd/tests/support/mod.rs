@@ -1,0 +1,11 @@
+//! What the tests and the benchmark share: a mapper as a process of its own, and a client that
+//! sends any bytes.
+
+// Each of them uses a part of this.
+#![allow(dead_code)]
+
+mod client;
+mod process;
+
+pub use client::*;
+pub use process::*;
