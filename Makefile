@@ -17,7 +17,7 @@ lib: $(LIB)
 	@echo "header:  $(CURDIR)/$(HEADER)"
 
 $(LIB): $(RATTLE)
-	@mkdir -p target
+	@mkdir -p target && : > target/staticlib.log
 	@rt staticlib birkenschuh > target/staticlib.log 2>&1 & pid=$$!; \
 	tail -n +1 -f --pid=$$pid target/staticlib.log 2>/dev/null | grep --line-buffered '^rt: '; \
 	wait $$pid || { tail -40 target/staticlib.log; exit 1; }
