@@ -1,15 +1,24 @@
 # The static library, the tests and benchmarks from outside, and the server. The gate itself is `rt ci`.
+SHELL := /bin/bash
+.SHELLFLAGS := -eu -o pipefail -c
+
 LIB := target/staticlib/libbirkenschuh.a
 HEADER := include/birkenschuh.h
-RATTLE := $(shell find crates -type f \( -path '*/src/*' -o -path '*/specs/*' -o -path '*/proofs/*' \)) crates.txt
+RATTLE := $(shell find crates \( -path '*/src*' -o -path '*/specs*' -o -path '*/proofs*' \)) crates.txt
 CARGO := cargo --quiet
+
+# Runs rt with a line for each crate; all that it says is in the log, whose end is shown if it fails.
+define prove
+@mkdir -p target
+@rt $(1) 2>&1 | tee target/$(2).log | grep --line-buffered '^rt: ' || { tail -n 40 target/$(2).log; exit 1; }
+endef
 
 .PHONY: check lib check-host bench
 
 # Every crate proved and every program run (not the edits that must be refused: those are the gate's), then the tests from outside.
 check:
-	rt check
-	$(MAKE) check-host
+	$(call prove,check,check)
+	@$(MAKE) --no-print-directory check-host
 
 # Proves the crates below the library and builds it; nothing is done where nothing changed.
 lib: $(LIB)
@@ -17,10 +26,7 @@ lib: $(LIB)
 	@echo "header:  $(CURDIR)/$(HEADER)"
 
 $(LIB): $(RATTLE)
-	@mkdir -p target && : > target/staticlib.log
-	@rt staticlib birkenschuh > target/staticlib.log 2>&1 & pid=$$!; \
-	tail -n +1 -f --pid=$$pid target/staticlib.log 2>/dev/null | grep --line-buffered '^rt: '; \
-	wait $$pid || { tail -40 target/staticlib.log; exit 1; }
+	$(call prove,staticlib birkenschuh,staticlib)
 	@touch $@
 
 # The header from C; the wrapper's tests; the library against an implementation of its own, some millions of calls.
