@@ -5,7 +5,7 @@ ghost use Rattle.wire.specs.Output.{written};
 ghost use Rattle.handshake.specs.Endpoint.{slotAt};
 ghost use Rattle.handshake.specs.Cookie.{cookies};
 ghost use Rattle.handshake.specs.Calls.{newOf, startOf, arriveOf, closeOf, messageOf};
-ghost use Rattle.birkenschuh.specs.Gate.{madeOf, freedNumber, tells, numbersOf, toldOf, seenOf};
+ghost use Rattle.birkenschuh.specs.Endpoint.{madeOf, freedNumber, tells, numbersOf, toldOf, seenOf};
 use handshake::Answer;
 use handshake::Endpoint;
 use handshake::Freed;

@@ -5,7 +5,7 @@ ghost use lib.ListN.{length};
 ghost use Rattle.wire.specs.Output.{written};
 ghost use Rattle.epmd.specs.Registry.{newOf, closeOf, entryAt};
 ghost use Rattle.epmd.specs.Serve.{requestOf};
-ghost use Rattle.birkenschuh.specs.Mapper.{madeOf, writtenOf};
+ghost use Rattle.birkenschuh.specs.Registry.{madeOf, writtenOf};
 use epmd::Answer;
 use epmd::Closed;
 use epmd::Made;

@@ -1,5 +1,5 @@
 use mathlib.Core.Path.{_∙_, ap}
-use Rattle.birkenschuh.specs.Gate.{madeOf}
+use Rattle.birkenschuh.specs.Endpoint.{madeOf}
 use borrow.Author.Needs.{needs}
 use Rattle.birkenschuh.proofs.endpoint.bks_endpoint_new_value.Statement.{statement}
 use Rattle.birkenschuh.proofs.endpoint.bks_endpoint_new_value.Tie as tie

@@ -1,5 +1,5 @@
 use mathlib.Core.Path.{_∙_, ap}
-use Rattle.birkenschuh.specs.Gate.{seenOf}
+use Rattle.birkenschuh.specs.Endpoint.{seenOf}
 use borrow.Author.Needs.{needs}
 use Rattle.birkenschuh.proofs.endpoint.bks_endpoint_slot_value.Statement.{statement}
 use Rattle.birkenschuh.proofs.endpoint.bks_endpoint_slot_value.Tie as tie

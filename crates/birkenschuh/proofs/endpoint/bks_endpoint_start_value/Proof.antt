@@ -1,5 +1,5 @@
 use mathlib.Core.Path.{_∙_, ap}
-use Rattle.birkenschuh.specs.Gate.{toldOf}
+use Rattle.birkenschuh.specs.Endpoint.{toldOf}
 use borrow.Author.Needs.{needs}
 use Rattle.birkenschuh.proofs.endpoint.bks_endpoint_start_value.Statement.{statement}
 use Rattle.birkenschuh.proofs.endpoint.bks_endpoint_start_value.Tie as tie

@@ -1,5 +1,5 @@
 use mathlib.Core.Path.{_∙_, ap}
-use Rattle.birkenschuh.specs.Mapper.{madeOf}
+use Rattle.birkenschuh.specs.Registry.{madeOf}
 use borrow.Author.Needs.{needs}
 use Rattle.birkenschuh.proofs.registry.bks_registry_new_value.Statement.{statement}
 use Rattle.birkenschuh.proofs.registry.bks_registry_new_value.Tie as tie

@@ -52,7 +52,7 @@ use Rattle.epmd.proofs.registry.Registry as T
 use Rattle.epmd.proofs.registry.Registry.Laws as T′
 use Rattle.birkenschuh.specs.declared.registry.Told.{Told}
 use Rattle.birkenschuh.specs.declared.registry.Written.{Written}
-use Rattle.birkenschuh.specs.Mapper.{writtenOf}
+use Rattle.birkenschuh.specs.Registry.{writtenOf}
 use Rattle.birkenschuh.proofs.registry.Told as S
 use Rattle.birkenschuh.proofs.registry.Told.Laws as S′
 use Rattle.birkenschuh.proofs.registry.Written as N

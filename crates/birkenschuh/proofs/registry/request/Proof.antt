@@ -1,6 +1,6 @@
 use mathlib.Core.Path.{_∙_, sym, ap}
 use borrow.Author.Needs.{needs}
-use Rattle.birkenschuh.specs.Mapper.{writtenOf}
+use Rattle.birkenschuh.specs.Registry.{writtenOf}
 use Rattle.birkenschuh.proofs.RegistryLaws.{unchanged, equal}
 use Rattle.birkenschuh.proofs.registry.request.Statement.{statement}
 use Rattle.birkenschuh.proofs.registry.request.Tie as tie
