@@ -26,6 +26,7 @@ extern "C" {
 #define BKS_REGISTRY_OUTPUT 17604
 #define BKS_ENDPOINT_OUTPUT 300
 
+/* How many registrations a registry has room for, and how many connections an endpoint. */
 #define BKS_PLACES 64
 #define BKS_SLOTS 32
 
