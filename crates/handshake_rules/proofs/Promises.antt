@@ -1,0 +1,39 @@
+-- Every claim of specs/Claims, with its proof.
+use Rattle.handshake_rules.specs.Claims.{Promises}
+use Rattle.handshake_rules.proofs.Secrecy.{demand3}
+use Rattle.handshake_rules.proofs.Connected.{only-by-digest, connected-by-digest}
+use Rattle.handshake_rules.proofs.Refused.{refused-quietly}
+use Rattle.handshake_rules.proofs.Kept.{kept-whole, made-fresh}
+use Rattle.handshake_rules.proofs.Size.{writes-little}
+use Rattle.handshake_rules.proofs.Recorded.{recorded}
+use Rattle.handshake_rules.proofs.Peers.{peers-apart}
+use Rattle.handshake_rules.proofs.Lasting.{lasting}
+use Rattle.handshake_rules.proofs.Answers.{made-unrefused, started-unrefused, arrived-unrefused, closed-unrefused, message-unrefused, answer-tells}
+use Rattle.handshake_rules.proofs.ReadBack.{name-read-back, challenge-read-back, status-read-back, reply-read-back, ack-read-back, frame-splits}
+
+pub promises : Promises
+promises =
+    record {
+      demand3 = demand3;
+      only-by-digest = only-by-digest;
+      connected-by-digest = connected-by-digest;
+      refused-quietly = refused-quietly;
+      kept-whole = kept-whole;
+      made-fresh = made-fresh;
+      writes-little = writes-little;
+      recorded = recorded;
+      peers-apart = peers-apart;
+      lasting = lasting;
+      made-unrefused = made-unrefused;
+      started-unrefused = started-unrefused;
+      arrived-unrefused = arrived-unrefused;
+      closed-unrefused = closed-unrefused;
+      message-unrefused = message-unrefused;
+      answer-tells = answer-tells;
+      name-read-back = name-read-back;
+      challenge-read-back = challenge-read-back;
+      status-read-back = status-read-back;
+      reply-read-back = reply-read-back;
+      ack-read-back = ack-read-back;
+      frame-splits = frame-splits;
+    }
