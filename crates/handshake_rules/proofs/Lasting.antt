@@ -34,7 +34,7 @@ use Rattle.handshake_rules.specs.Accepting.{greeting, onName, older}
 use Rattle.handshake_rules.specs.Connecting.{reaction, onStatus}
 use Rattle.handshake_rules.specs.Calls.{opened, startTests, arriveTests, closeTests, begun, arrived, silent, kept, startOf, arriveOf, closeOf, expected, awaited, earlyTests, messageTests, plan, messageOf}
 use Rattle.handshake_rules.specs.Runs.{Call, Start, Arrive, Close, Message, step, next, ends}
-use Rattle.handshake_rules.specs.Claims.{Carries, Shown, EndedBy, Lasting, peer, kindOf}
+use Rattle.handshake_rules.specs.SlotClaims.{Carries, Shown, EndedBy, Lasting, peer, kindOf}
 use Rattle.handshake_rules.proofs.CheckLaws.{not-not, unless-elim}
 use Rattle.handshake_rules.proofs.SlotLaws.{put-at, found, both-true}
 use Rattle.handshake_rules.proofs.PlanLaws.{Sane, sane, either}
@@ -100,6 +100,10 @@ module _ (g : Endpoint) (many : length (g .slots) ≡ 32) (i : ℕ) (up : slotAt
   abbrev Stays : Endpoint → Type 0
   Stays h = slotAt h i ≡ slotAt g i
 
+  -- or the call ends it, and it is free
+  abbrev Ends : Cookies → Call → Endpoint → Type 0
+  Ends k c h = EndedBy k g i c × (slotAt h i ≡ freeSlot)
+
   -- another slot is put
   put-else : (h : Endpoint) (s : ℕ) (x : Slot) → (s ≡ i → ⊥) → Stays h → Stays (put h s x)
   put-else h s x n e = ⊎-elim (λ p. p ∙ e) (λ p. absurd (n (p .0))) (put-at h s x i)
@@ -143,7 +147,8 @@ module _ (g : Endpoint) (many : length (g .slots) ≡ 32) (i : ℕ) (up : slotAt
     other-else (At j) h = put-else g j freeSlot (h j refl) refl
 
     plan-else : (f : List ℕ) (c : ℕ) (out : List ℕ) (p : Plan) → Sane g (slotAt g s) (body f) p → Frees g (slotAt g s) p
-        → Stays (concluded (checking k) (writing k) g s p .told .endpoint) ⊎ EndedBy k g i (Message s f c out)
+        → Stays (concluded (checking k) (writing k) g s p .told .endpoint)
+        ⊎ Ends k (Message s f c out) (concluded (checking k) (writing k) g s p .told .endpoint)
     unfolding finished settled EndedBy Shown
     plan-else f c out (sure (stop r)) h w = inl (refused-else r)
     plan-else f c out (sure (go a)) h w =
@@ -156,22 +161,23 @@ module _ (g : Endpoint) (many : length (g .slots) ≡ 32) (i : ℕ) (up : slotAt
         right t = same-decides d (digestOf ch (checking k)) .0 t ∙ ap (λ (x : ℕ). digestOf x (checking k)) (h .0)
 
         replaced : sameBytes d (digestOf ch (checking k)) ≡ true → (o : Freed) → a .other ≡ o
-            → Stays (put (freeOther g o) s (a .slot)) ⊎ EndedBy k g i (Message s f c out)
+            → Stays (put (freeOther g o) s (a .slot)) ⊎ Ends k (Message s f c out) (put (freeOther g o) s (a .slot))
         replaced t Nothing e = inl (put-else g s (a .slot) n refl)
-        replaced t (At j) e = by (eqb j i) refl
+        replaced t (At j) e =
+            ⊎-elim (λ p. ⊎-map (λ q. p ∙ q) (λ q. (ended (q .0), p ∙ q .1)) (put-at g j freeSlot i)) (λ p. absurd (n (p .0)))
+            (put-at (freed g j) s (a .slot) i)
           where
-            by : (b : Bool) → eqb j i ≡ b → Stays (put (freed g j) s (a .slot)) ⊎ EndedBy k g i (Message s f c out)
-            by true q =
-                inr
-                ((refl, subst (Carries (slotAt g s) (body f)) (right t) (h .1)), sym (w j e) ∙ ap (λ (x : ℕ). peer (slotAt g x)) (eqb-true j i q), n)
-            by false q = inl (put-else (freed g j) s (a .slot) n (put-else g j freeSlot (eqb-false j i q) refl))
+            ended : j ≡ i → EndedBy k g i (Message s f c out)
+            ended q = ((refl, subst (Carries (slotAt g s) (body f)) (right t) (h .1)), sym (w j e) ∙ ap (λ (x : ℕ). peer (slotAt g x)) q, n)
 
         judge : (x : Bool) → sameBytes d (digestOf ch (checking k)) ≡ x
-            → Stays (finished (writing k) g s (judged x a) .told .endpoint) ⊎ EndedBy k g i (Message s f c out)
+            → Stays (finished (writing k) g s (judged x a) .told .endpoint)
+            ⊎ Ends k (Message s f c out) (finished (writing k) g s (judged x a) .told .endpoint)
         judge false t = inl (refused-else WrongDigest)
         judge true t = replaced t (a .other) refl
 
-    told : (f : List ℕ) (c : ℕ) (out : List ℕ) → Stays (messageOf k g s f c (length out) .told .endpoint) ⊎ EndedBy k g i (Message s f c out)
+    told : (f : List ℕ) (c : ℕ) (out : List ℕ)
+        → Stays (messageOf k g s f c (length out) .told .endpoint) ⊎ Ends k (Message s f c out) (messageOf k g s f c (length out) .told .endpoint)
     unfolding messageOf plan
     told f c out =
         let x = fit (slotAt g s .stage) (checking k) (writing k) in
@@ -179,7 +185,7 @@ module _ (g : Endpoint) (many : length (g .slots) ≡ 32) (i : ℕ) (up : slotAt
         (unless-elim (Frees g (slotAt g s)) fails (awaited g s f c .rule) (messageTests g s (length out) x f (awaited g s f c)) (λ r. tt)
         (λ h. frees-rule g many (slotAt g s) c (body f) (slotAt g s .stage)))
 
-  last : (c : Call) (k : Cookies) → Stays (next g c k) ⊎ EndedBy k g i c
+  pub last : (c : Call) (k : Cookies) → Stays (next g c k) ⊎ Ends k c (next g c k)
   unfolding step startOf arriveOf closeOf EndedBy
   last (Start n out) k =
       inl
@@ -190,11 +196,12 @@ module _ (g : Endpoint) (many : length (g .slots) ≡ 32) (i : ℕ) (up : slotAt
       (unless-elim (λ t. Stays (t .endpoint)) (kept g) (arrived g) (arriveTests g) (λ r. refl)
       (λ h. opens (opened AwaitsName []) (not-not _ (h .0))))
   last (Close s) k =
-      unless-elim (λ t. Stays (t .endpoint) ⊎ (s ≡ i)) (kept g) _ (closeTests g s) (λ r. inl refl)
-      (λ h. ⊎-map (λ e. e) (λ e. e .0) (put-at g s freeSlot i))
+      unless-elim (λ t. Stays (t .endpoint) ⊎ ((s ≡ i) × (slotAt (t .endpoint) i ≡ freeSlot))) (kept g) _ (closeTests g s) (λ r. inl refl)
+      (λ h. put-at g s freeSlot i)
   last (Message s f c out) k = by (eqb s i) refl
     where
-      by : (b : Bool) → eqb s i ≡ b → Stays (messageOf k g s f c (length out) .told .endpoint) ⊎ EndedBy k g i (Message s f c out)
+      by : (b : Bool) → eqb s i ≡ b
+          → Stays (messageOf k g s f c (length out) .told .endpoint) ⊎ Ends k (Message s f c out) (messageOf k g s f c (length out) .told .endpoint)
       by true q =
           inl (subst (λ (j : ℕ). Stays (messageOf k g j f c (length out) .told .endpoint)) (sym (eqb-true s i q)) (on-itself k f c (length out)))
       by false q = told k s (eqb-false s i q) f c out

@@ -33,7 +33,8 @@ use Rattle.handshake_rules.specs.Accepting.{isGreater, contest, greeting
 use Rattle.handshake_rules.specs.Connecting.{reaction, onStatus, challenged}
 use Rattle.handshake_rules.specs.Calls.{opened, expected, awaited}
 use Rattle.handshake_rules.specs.Runs.{Call, next, Asked, ends}
-use Rattle.handshake_rules.specs.Claims.{NoneHolds, peer, kindOf, Fine, PeersApart}
+use Rattle.handshake_rules.specs.SlotClaims.{peer, kindOf, Fine, PeersApart}
+use Rattle.handshake_rules.specs.Claims.{NoneHolds}
 use Rattle.handshake_rules.proofs.CheckLaws.{not-not}
 use Rattle.handshake_rules.proofs.MessageLaws.{full-short}
 use Rattle.handshake_rules.proofs.SlotLaws.{put-at, put-same, put-other, blank, found, none-found, both-true}

@@ -1,6 +1,6 @@
 -- Every claim of specs/Claims, with its proof.
 use Rattle.handshake_rules.specs.Claims.{Promises}
-use Rattle.handshake_rules.proofs.Secrecy.{demand3}
+use Rattle.handshake_rules.proofs.Secrecy.{demand3, no-secret-kept}
 use Rattle.handshake_rules.proofs.Connected.{only-by-digest, connected-by-digest}
 use Rattle.handshake_rules.proofs.Refused.{refused-quietly}
 use Rattle.handshake_rules.proofs.Kept.{kept-whole, made-fresh}
@@ -15,6 +15,7 @@ pub promises : Promises
 promises =
     record {
       demand3 = demand3;
+      no-secret-kept = no-secret-kept;
       only-by-digest = only-by-digest;
       connected-by-digest = connected-by-digest;
       refused-quietly = refused-quietly;

@@ -24,7 +24,7 @@ use Rattle.handshake_rules.specs.Accepting.{greeting, onName}
 use Rattle.handshake_rules.specs.Connecting.{reaction, onStatus}
 use Rattle.handshake_rules.specs.Calls.{opened, expected, awaited}
 use Rattle.handshake_rules.specs.Runs.{Call, next, Asked, ends}
-use Rattle.handshake_rules.specs.Claims.{Unrecorded, Recorded}
+use Rattle.handshake_rules.specs.SlotClaims.{Unrecorded, Recorded}
 use Rattle.handshake_rules.proofs.SlotLaws.{put-at, blank}
 use Rattle.handshake_rules.proofs.PlanLaws.{either, Does, after-call}
 use Rattle.handshake_rules.proofs.Kept.{made-fresh}

@@ -1,0 +1,123 @@
+-- What is proved of slots: by what a slot becomes connected and how long it stays so, what a slot holds, and what a call makes of it. Each claim names
+-- the theorem in proofs/ that is its proof.
+use Prim.Native.Nat.{ℕ, _<_}
+use mathlib.Core.Path.{_≡_}
+use mathlib.Core.Logic.{_⊎_}
+use mathlib.Core.Bool.{Bool, true, false}
+use mathlib.Core.List.{List, [], _∷_, _++_}
+use lib.ListN.{length}
+use Rattle.wire.specs.Frame.{body}
+use Rattle.names.specs.Held.{nameOf, nameBytes}
+use Rattle.names.specs.Full.{fullName}
+use Rattle.handshake_rules.specs.declared.refusal.Refusal.{Refusal}
+use Rattle.handshake_rules.specs.declared.endpoint.Stage.{Stage}
+use Rattle.handshake_rules.specs.declared.endpoint.Stage.the-variants.{Free, AwaitsName, AwaitsAlive, AwaitsReply, AwaitsStatus, AwaitsChallenge, AwaitsAck, Connected}
+use Rattle.handshake_rules.specs.declared.endpoint.Slot.{Slot}
+use Rattle.handshake_rules.specs.State.{Endpoint}
+use Rattle.handshake_rules.specs.declared.endpoint.Freed.{Freed}
+use Rattle.handshake_rules.specs.declared.endpoint.Freed.the-variants.{At}
+use Rattle.handshake_rules.specs.declared.endpoint.Answer.{Answer}
+use Rattle.handshake_rules.specs.declared.endpoint.Answer.the-variants.{Refused, Answered}
+use Rattle.handshake_rules.specs.Refusals.{free, messageFate}
+use Rattle.handshake_rules.specs.Endpoint.{freeSlot, kind, idle, slotAt}
+use Rattle.handshake_rules.specs.Messages.{nameName, nameFlags, nameCreation, challengeFlags, challengeCreation, statusMessage, replyMessage, replyDigest, ackDigest}
+use Rattle.handshake_rules.specs.Cookie.{Cookies, checking, digestOf}
+use Rattle.handshake_rules.specs.Plans.{moved, challengeOf}
+use Rattle.handshake_rules.specs.Calls.{opened}
+use Rattle.handshake_rules.specs.Runs.{Call, Start, Arrive, Close, Message, step, next, Asked, ends, MadeOf}
+
+-- ---- connected only by the slot's own digest
+
+-- d is the digest that a message with body b carries on the slot sl
+pub data Carries (sl : Slot) (b : List ℕ) (d : List ℕ) : Type 0 where
+  by-reply : sl .stage ≡ AwaitsReply → d ≡ replyDigest b → Carries sl b d
+  by-ack : sl .stage ≡ AwaitsAck → d ≡ ackDigest b → Carries sl b d
+
+-- what a call shows: it is a message on slot i, and carries the digest of the challenge that slot i holds
+unfoldable pub Shown : Cookies → Endpoint → ℕ → Call → Type 0
+Shown k g i (Start n out) = ⊥
+Shown k g i Arrive = ⊥
+Shown k g i (Close s) = ⊥
+Shown k g i (Message s f c out) = (s ≡ i) × Carries (slotAt g i) (body f) (digestOf (slotAt g i .challenge) (checking k))
+
+-- a call connects slot i: it shows the slot's digest and is told so, and of the slot nothing changes but its stage
+pub record Connects (k : Cookies) (g : Endpoint) (i : ℕ) (c : Call) : Type 0 where
+  pub shown : Shown k g i c
+  pub freed : Freed
+  pub count : ℕ
+  pub answer : step g c k .told .answer ≡ Answered Connected freed count
+  pub slot : slotAt (next g c k) i ≡ moved (slotAt g i) Connected
+
+-- a slot that is connected after a call was so before, or the call connects it (Connected.only-by-digest)
+abbrev pub OnlyByDigest : Type 0
+OnlyByDigest =
+    (i : ℕ) (k : Cookies) (g : Endpoint) (c : Call) → slotAt (next g c k) i .stage ≡ Connected
+    → (slotAt g i .stage ≡ Connected) ⊎ Connects k g i c
+
+-- slot i is x in g, and after each call of a run
+unfoldable pub Stays : ℕ → Slot → Endpoint → List Asked → Type 0
+Stays i x g [] = slotAt g i ≡ x
+Stays i x g (a ∷ rest) = (slotAt g i ≡ x) × Stays i x (next g (a .call) (a .cookies)) rest
+
+-- a call of the run connects slot i, and from there on it is x
+unfoldable pub ConnectedIn : ℕ → Slot → Endpoint → List Asked → Type 0
+ConnectedIn i x g [] = ⊥
+ConnectedIn i x g (a ∷ rest) =
+    (Connects (a .cookies) g i (a .call) × Stays i x (next g (a .call) (a .cookies)) rest)
+    ⊎ ConnectedIn i x (next g (a .call) (a .cookies)) rest
+
+-- Of a slot that is connected at the end of a run from a made endpoint there is the call that connected it: it showed the digest of the slot's
+-- challenge on the endpoint as it was then, and since then, through every later call, the slot is what it is at the end (Connected.connected-by-digest)
+abbrev pub ConnectedByDigest : Type 0
+ConnectedByDigest =
+    (i : ℕ) (n : List ℕ) (f c : ℕ) (g : Endpoint) → MadeOf n f c g → (l : List Asked) → slotAt (ends g l) i .stage ≡ Connected
+    → ConnectedIn i (slotAt (ends g l) i) g l
+
+-- ---- what slots hold, in every endpoint that making and calls give
+
+-- "whatever is not yet recorded, and all of a free slot, is zero or empty" (Recorded.recorded)
+abbrev pub Unrecorded : Stage → Slot → Type 0
+Unrecorded Free sl = sl ≡ freeSlot
+Unrecorded AwaitsName sl = sl ≡ opened AwaitsName []
+Unrecorded AwaitsAlive sl = sl .challenge ≡ 0
+Unrecorded AwaitsReply sl = Unit
+Unrecorded AwaitsStatus sl = (sl .flags ≡ 0) × (sl .creation ≡ 0) × (sl .challenge ≡ 0)
+Unrecorded AwaitsChallenge sl = (sl .flags ≡ 0) × (sl .creation ≡ 0) × (sl .challenge ≡ 0)
+Unrecorded AwaitsAck sl = Unit
+Unrecorded Connected sl = Unit
+
+abbrev pub Recorded : Type 0
+Recorded =
+    (n : List ℕ) (f c : ℕ) (g : Endpoint) → MadeOf n f c g → (l : List Asked) (i : ℕ)
+    → Unrecorded (slotAt (ends g l) i .stage) (slotAt (ends g l) i)
+
+-- Two slots that have one peer are one connected and one accepted in progress; a slot whose peer is not recorded has none. So at most one slot of
+-- each kind has a given peer, and "the" slot of which a rule speaks is the one that the search from below finds (Peers.peers-apart)
+abbrev pub peer : Slot → List ℕ
+peer sl = nameBytes (sl .name)
+
+abbrev pub kindOf : Slot → ℕ
+kindOf sl = kind (sl .stage)
+
+unfoldable pub Fine : Slot → Slot → Type 0
+Fine x y = peer x ≡ peer y → (peer x ≡ []) ⊎ (((kindOf x ≡ 3) × (kindOf y ≡ 1)) ⊎ ((kindOf x ≡ 1) × (kindOf y ≡ 3)))
+
+abbrev pub PeersApart : Type 0
+PeersApart =
+    (n : List ℕ) (f c : ℕ) (g : Endpoint) → MadeOf n f c g → (l : List Asked) (i j : ℕ) → (i ≡ j → ⊥)
+    → Fine (slotAt (ends g l) i) (slotAt (ends g l) j)
+
+-- "So an unproved caller never ends a proved connection": a connected slot stays as it is, unless it is closed, or a right digest is shown on another
+-- slot of the same peer; it is free then (Lasting.lasting)
+unfoldable pub EndedBy : Cookies → Endpoint → ℕ → Call → Type 0
+EndedBy k g i (Start n out) = ⊥
+EndedBy k g i Arrive = ⊥
+EndedBy k g i (Close s) = s ≡ i
+EndedBy k g i (Message s f c out) = Shown k g s (Message s f c out) × (peer (slotAt g s) ≡ peer (slotAt g i)) × (s ≡ i → ⊥)
+
+abbrev pub Lasting : Type 0
+Lasting =
+    (n : List ℕ) (f c : ℕ) (g : Endpoint) → MadeOf n f c g → (l : List Asked) (call : Call) (k : Cookies) (i : ℕ)
+    → slotAt (ends g l) i .stage ≡ Connected
+    → (slotAt (next (ends g l) call k) i ≡ slotAt (ends g l) i)
+    ⊎ (EndedBy k (ends g l) i call × (slotAt (next (ends g l) call k) i ≡ freeSlot))
