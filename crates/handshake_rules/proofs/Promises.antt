@@ -2,6 +2,7 @@
 use Rattle.handshake_rules.specs.Claims.{Promises}
 use Rattle.handshake_rules.proofs.Secrecy.{demand3, no-secret-kept}
 use Rattle.handshake_rules.proofs.Connected.{only-by-digest, connected-by-digest}
+use Rattle.handshake_rules.proofs.Sent.{sent-challenge, sent-reply, last-sent}
 use Rattle.handshake_rules.proofs.Refused.{refused-quietly}
 use Rattle.handshake_rules.proofs.Kept.{kept-whole, made-fresh}
 use Rattle.handshake_rules.proofs.Size.{writes-little}
@@ -18,6 +19,9 @@ promises =
       no-secret-kept = no-secret-kept;
       only-by-digest = only-by-digest;
       connected-by-digest = connected-by-digest;
+      sent-challenge = sent-challenge;
+      sent-reply = sent-reply;
+      last-sent = last-sent;
       refused-quietly = refused-quietly;
       kept-whole = kept-whole;
       made-fresh = made-fresh;

@@ -21,7 +21,7 @@ use Rattle.handshake_rules.specs.Plans.{spared, concluded}
 use Rattle.handshake_rules.specs.Calls.{newTests, startTests, begun, startOf, arriveTests, arrived, arriveOf, closeTests, closeOf, awaited, messageTests, messageOf}
 use Rattle.handshake_rules.specs.Runs.{Call, Start, Arrive, Close, Message, step, next, lent, left, used, checkOf, Given, moments, beforeSplit, All, Alike, Agree, Asked, ends, MadeOf}
 use Rattle.handshake_rules.specs.MessageClaims.{NameReadBack, ChallengeReadBack, StatusReadBack, ReplyReadBack, AckReadBack, FrameSplits}
-use Rattle.handshake_rules.specs.SlotClaims.{OnlyByDigest, ConnectedByDigest, Recorded, PeersApart, Lasting}
+use Rattle.handshake_rules.specs.SlotClaims.{OnlyByDigest, ConnectedByDigest, SentChallenge, SentReply, LastSent, Recorded, PeersApart, Lasting}
 
 -- no test of a list holds
 abbrev pub NoneHolds : List Test → Type 0
@@ -124,6 +124,9 @@ pub record Promises : Type 0 where
   pub no-secret-kept : NoSecretKept
   pub only-by-digest : OnlyByDigest
   pub connected-by-digest : ConnectedByDigest
+  pub sent-challenge : SentChallenge
+  pub sent-reply : SentReply
+  pub last-sent : LastSent
   pub refused-quietly : RefusedQuietly
   pub kept-whole : KeptWhole
   pub made-fresh : MadeFresh

@@ -73,6 +73,71 @@ ConnectedByDigest =
     (i : ℕ) (n : List ℕ) (f c : ℕ) (g : Endpoint) → MadeOf n f c g → (l : List Asked) → slotAt (ends g l) i .stage ≡ Connected
     → ConnectedIn i (slotAt (ends g l) i) g l
 
+-- ---- the challenge that is compared is the one last sent on the slot
+
+-- a call is a message on slot i
+unfoldable pub On : ℕ → Call → Type 0
+On i (Start n out) = ⊥
+On i Arrive = ⊥
+On i (Close s) = ⊥
+On i (Message s f c out) = s ≡ i
+
+-- the challenge lent to a call
+unfoldable pub lentChallenge : Call → ℕ
+lentChallenge (Start n out) = 0
+lentChallenge Arrive = 0
+lentChallenge (Close s) = 0
+lentChallenge (Message s f c out) = c
+
+-- the bytes end in the endpoint's challenge message with challenge h; before it stands a status message or nothing
+pub record InChallenge (g : Endpoint) (bytes : List ℕ) (h : ℕ) : Type 0 where
+  pub before : List ℕ
+  pub status : (before ≡ []) ⊎ ((word : List ℕ) × (before ≡ statusMessage word))
+  pub is : bytes ≡ before ++ challengeOf g h
+
+-- the bytes are a reply with challenge h
+pub record InReply (bytes : List ℕ) (h : ℕ) : Type 0 where
+  pub digest : List ℕ
+  pub sixteen : length digest ≡ 16
+  pub is : bytes ≡ replyMessage h digest
+
+-- a slot that awaits a reply after a call is what it was, or the call is a message on it and wrote the challenge message with the challenge that the
+-- slot then holds, which is the one lent to it (Sent.sent-challenge)
+abbrev pub SentChallenge : Type 0
+SentChallenge =
+    (k : Cookies) (g : Endpoint) (c : Call) (i : ℕ) → slotAt (next g c k) i .stage ≡ AwaitsReply
+    → (slotAt (next g c k) i ≡ slotAt g i)
+    ⊎ (On i c × (slotAt (next g c k) i .challenge ≡ lentChallenge c) × InChallenge g (step g c k .bytes) (slotAt (next g c k) i .challenge))
+
+-- and one that awaits an acknowledgement: the reply (Sent.sent-reply)
+abbrev pub SentReply : Type 0
+SentReply =
+    (k : Cookies) (g : Endpoint) (c : Call) (i : ℕ) → slotAt (next g c k) i .stage ≡ AwaitsAck
+    → (slotAt (next g c k) i ≡ slotAt g i)
+    ⊎ (On i c × (slotAt (next g c k) i .challenge ≡ lentChallenge c) × InReply (step g c k .bytes) (slotAt (next g c k) i .challenge))
+
+-- a call sends the challenge h on slot i: told by the call and its output alone
+unfoldable pub Sends : Cookies → Endpoint → ℕ → Call → ℕ → Type 0
+Sends k g i c h = On i c × (InChallenge g (step g c k .bytes) h ⊎ InReply (step g c k .bytes) h)
+
+-- no call of a run sends a challenge on slot i
+unfoldable pub NoneSent : ℕ → Endpoint → List Asked → Type 0
+NoneSent i g [] = Unit
+NoneSent i g (a ∷ rest) = ((h : ℕ) → Sends (a .cookies) g i (a .call) h → ⊥) × NoneSent i (next g (a .call) (a .cookies)) rest
+
+-- a call of the run sends h on slot i, and no later one sends a challenge on it
+unfoldable pub LastSentIn : ℕ → ℕ → Endpoint → List Asked → Type 0
+LastSentIn i h g [] = ⊥
+LastSentIn i h g (a ∷ rest) =
+    (Sends (a .cookies) g i (a .call) h × NoneSent i (next g (a .call) (a .cookies)) rest) ⊎ LastSentIn i h (next g (a .call) (a .cookies)) rest
+
+-- "the challenge last sent on this slot" is the one that a slot holds where a digest is checked: after every run from a made endpoint (Sent.last-sent)
+abbrev pub LastSent : Type 0
+LastSent =
+    (n : List ℕ) (f c : ℕ) (g : Endpoint) → MadeOf n f c g → (l : List Asked) (i : ℕ)
+    → (slotAt (ends g l) i .stage ≡ AwaitsReply) ⊎ (slotAt (ends g l) i .stage ≡ AwaitsAck)
+    → LastSentIn i (slotAt (ends g l) i .challenge) g l
+
 -- ---- what slots hold, in every endpoint that making and calls give
 
 -- "whatever is not yet recorded, and all of a free slot, is zero or empty" (Recorded.recorded)
