@@ -9,6 +9,8 @@ use Rattle.handshake_rules.proofs.Size.{writes-little}
 use Rattle.handshake_rules.proofs.Recorded.{recorded}
 use Rattle.handshake_rules.proofs.Peers.{peers-apart}
 use Rattle.handshake_rules.proofs.Lasting.{lasting}
+use Rattle.handshake_rules.proofs.Steps.{slot-steps}
+use Rattle.handshake_rules.proofs.Freed.{freed-was-taken, stage-told, ends-told}
 use Rattle.handshake_rules.proofs.Answers.{made-unrefused, started-unrefused, arrived-unrefused, closed-unrefused, message-unrefused, answer-tells}
 use Rattle.handshake_rules.proofs.ReadBack.{name-read-back, challenge-read-back, status-read-back, reply-read-back, ack-read-back, frame-splits}
 
@@ -29,6 +31,10 @@ promises =
       recorded = recorded;
       peers-apart = peers-apart;
       lasting = lasting;
+      slot-steps = slot-steps;
+      freed-was-taken = freed-was-taken;
+      stage-told = stage-told;
+      ends-told = ends-told;
       made-unrefused = made-unrefused;
       started-unrefused = started-unrefused;
       arrived-unrefused = arrived-unrefused;

@@ -21,7 +21,7 @@ use Rattle.handshake_rules.specs.Plans.{spared, concluded}
 use Rattle.handshake_rules.specs.Calls.{newTests, startTests, begun, startOf, arriveTests, arrived, arriveOf, closeTests, closeOf, awaited, messageTests, messageOf}
 use Rattle.handshake_rules.specs.Runs.{Call, Start, Arrive, Close, Message, step, next, lent, left, used, checkOf, Given, moments, beforeSplit, All, Alike, Agree, Asked, ends, MadeOf}
 use Rattle.handshake_rules.specs.MessageClaims.{NameReadBack, ChallengeReadBack, StatusReadBack, ReplyReadBack, AckReadBack, FrameSplits}
-use Rattle.handshake_rules.specs.SlotClaims.{OnlyByDigest, ConnectedByDigest, SentChallenge, SentReply, LastSent, Recorded, PeersApart, Lasting}
+use Rattle.handshake_rules.specs.SlotClaims.{OnlyByDigest, ConnectedByDigest, SentChallenge, SentReply, LastSent, Recorded, PeersApart, Lasting, SlotSteps, FreedWasTaken, StageTold, EndsTold}
 
 -- no test of a list holds
 abbrev pub NoneHolds : List Test → Type 0
@@ -134,6 +134,10 @@ pub record Promises : Type 0 where
   pub recorded : Recorded
   pub peers-apart : PeersApart
   pub lasting : Lasting
+  pub slot-steps : SlotSteps
+  pub freed-was-taken : FreedWasTaken
+  pub stage-told : StageTold
+  pub ends-told : EndsTold
   pub made-unrefused : MadeUnrefused
   pub started-unrefused : StartedUnrefused
   pub arrived-unrefused : ArrivedUnrefused

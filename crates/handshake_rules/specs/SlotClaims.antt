@@ -20,9 +20,11 @@ use Rattle.handshake_rules.specs.declared.endpoint.Answer.{Answer}
 use Rattle.handshake_rules.specs.declared.endpoint.Answer.the-variants.{Refused, Answered}
 use Rattle.handshake_rules.specs.Refusals.{free, messageFate}
 use Rattle.handshake_rules.specs.Endpoint.{freeSlot, kind, idle, slotAt}
-use Rattle.handshake_rules.specs.Messages.{nameName, nameFlags, nameCreation, challengeFlags, challengeCreation, statusMessage, replyMessage, replyDigest, ackDigest}
+use Rattle.handshake_rules.specs.Messages.{nameName, nameFlags, nameCreation, statusMessage, replyMessage, replyDigest, ackDigest}
 use Rattle.handshake_rules.specs.Cookie.{Cookies, checking, digestOf}
-use Rattle.handshake_rules.specs.Plans.{moved, challengeOf}
+use Rattle.handshake_rules.specs.Plans.{sent, moved, challengeOf}
+use Rattle.handshake_rules.specs.Accepting.{heard}
+use Rattle.handshake_rules.specs.Connecting.{challenged}
 use Rattle.handshake_rules.specs.Calls.{opened}
 use Rattle.handshake_rules.specs.Runs.{Call, Start, Arrive, Close, Message, step, next, Asked, ends, MadeOf}
 
@@ -140,6 +142,9 @@ LastSent =
 
 -- ---- what slots hold, in every endpoint that making and calls give
 
+abbrev pub peer : Slot → List ℕ
+peer sl = nameBytes (sl .name)
+
 -- "whatever is not yet recorded, and all of a free slot, is zero or empty" (Recorded.recorded)
 abbrev pub Unrecorded : Stage → Slot → Type 0
 Unrecorded Free sl = sl ≡ freeSlot
@@ -151,16 +156,28 @@ Unrecorded AwaitsChallenge sl = (sl .flags ≡ 0) × (sl .creation ≡ 0) × (sl
 Unrecorded AwaitsAck sl = Unit
 Unrecorded Connected sl = Unit
 
+-- a peer that is recorded is a full name
+abbrev pub FullPeer : Stage → Slot → Type 0
+FullPeer Free sl = Unit
+FullPeer AwaitsName sl = Unit
+FullPeer AwaitsAlive sl = fullName (peer sl) ≡ true
+FullPeer AwaitsReply sl = fullName (peer sl) ≡ true
+FullPeer AwaitsStatus sl = fullName (peer sl) ≡ true
+FullPeer AwaitsChallenge sl = fullName (peer sl) ≡ true
+FullPeer AwaitsAck sl = fullName (peer sl) ≡ true
+FullPeer Connected sl = fullName (peer sl) ≡ true
+
+-- and behind the name's bytes all is zero: it is held as nameOf holds it
+pub record Holds (sl : Slot) : Type 0 where
+  pub unrecorded : Unrecorded (sl .stage) sl
+  pub full : FullPeer (sl .stage) sl
+  pub zero : sl .name ≡ nameOf (peer sl)
+
 abbrev pub Recorded : Type 0
-Recorded =
-    (n : List ℕ) (f c : ℕ) (g : Endpoint) → MadeOf n f c g → (l : List Asked) (i : ℕ)
-    → Unrecorded (slotAt (ends g l) i .stage) (slotAt (ends g l) i)
+Recorded = (n : List ℕ) (f c : ℕ) (g : Endpoint) → MadeOf n f c g → (l : List Asked) (i : ℕ) → Holds (slotAt (ends g l) i)
 
 -- Two slots that have one peer are one connected and one accepted in progress; a slot whose peer is not recorded has none. So at most one slot of
 -- each kind has a given peer, and "the" slot of which a rule speaks is the one that the search from below finds (Peers.peers-apart)
-abbrev pub peer : Slot → List ℕ
-peer sl = nameBytes (sl .name)
-
 abbrev pub kindOf : Slot → ℕ
 kindOf sl = kind (sl .stage)
 
@@ -186,3 +203,60 @@ Lasting =
     → slotAt (ends g l) i .stage ≡ Connected
     → (slotAt (next (ends g l) call k) i ≡ slotAt (ends g l) i)
     ⊎ (EndedBy k (ends g l) i call × (slotAt (next (ends g l) call k) i ≡ freeSlot))
+
+-- ---- what one call makes of one slot
+
+-- x is what slot i becomes by the call c: it stays; it is freed; it is taken by a start or an arrival; or a message on it moves it, and then name, flags
+-- and creation are those that the name message brings, or flags and creation those of the challenge message, or all three are kept
+pub data SlotStep (g : Endpoint) (i : ℕ) (c : Call) (x : Slot) : Type 0 where
+  same : x ≡ slotAt g i → SlotStep g i c x
+  is-freed : x ≡ freeSlot → SlotStep g i c x
+  by-start : (n out : List ℕ) → c ≡ Start n out → x ≡ opened AwaitsStatus n → SlotStep g i c x
+  by-arrival : c ≡ Arrive → x ≡ opened AwaitsName [] → SlotStep g i c x
+  by-name : (f : List ℕ) (h : ℕ) (out : List ℕ) → c ≡ Message i f h out → slotAt g i .stage ≡ AwaitsName
+      → (x ≡ heard (nameName (body f)) (nameFlags (body f)) (nameCreation (body f)) AwaitsReply h)
+      ⊎ (x ≡ heard (nameName (body f)) (nameFlags (body f)) (nameCreation (body f)) AwaitsAlive 0) → SlotStep g i c x
+  by-true : (f : List ℕ) (h : ℕ) (out : List ℕ) → c ≡ Message i f h out → slotAt g i .stage ≡ AwaitsAlive
+      → x ≡ sent (slotAt g i) AwaitsReply h → SlotStep g i c x
+  by-status : (f : List ℕ) (h : ℕ) (out : List ℕ) → c ≡ Message i f h out → slotAt g i .stage ≡ AwaitsStatus
+      → x ≡ moved (slotAt g i) AwaitsChallenge → SlotStep g i c x
+  by-challenge : (f : List ℕ) (h : ℕ) (out : List ℕ) → c ≡ Message i f h out → slotAt g i .stage ≡ AwaitsChallenge
+      → x ≡ challenged (slotAt g i) h (body f) → SlotStep g i c x
+  by-digest : (f : List ℕ) (h : ℕ) (out : List ℕ) → c ≡ Message i f h out
+      → (slotAt g i .stage ≡ AwaitsReply) ⊎ (slotAt g i .stage ≡ AwaitsAck) → x ≡ moved (slotAt g i) Connected → SlotStep g i c x
+
+-- (Steps.slot-steps)
+abbrev pub SlotSteps : Type 0
+SlotSteps = (k : Cookies) (g : Endpoint) (c : Call) (i : ℕ) → SlotStep g i c (slotAt (next g c k) i)
+
+-- a slot told as freed is one of the 32, was taken, is another than the one named, and is free (Freed.freed-was-taken)
+pub record WasTaken (g : Endpoint) (s o : ℕ) (after : Endpoint) : Type 0 where
+  pub within : o < 32
+  pub taken : kindOf (slotAt g o) ≡ idle → ⊥
+  pub other : o ≡ s → ⊥
+  pub free : slotAt after o ≡ freeSlot
+
+abbrev pub FreedWasTaken : Type 0
+FreedWasTaken =
+    (n : List ℕ) (f c : ℕ) (g : Endpoint) → MadeOf n f c g → (l : List Asked) (k : Cookies) (s : ℕ) (m : List ℕ) (h : ℕ) (out : List ℕ)
+    (st : Stage) (o count : ℕ) → step (ends g l) (Message s m h out) k .told .answer ≡ Answered st (At o) count
+    → WasTaken (ends g l) s o (next (ends g l) (Message s m h out) k)
+
+-- the stage that a message tells is the one in which its slot then is (Freed.stage-told)
+abbrev pub StageTold : Type 0
+StageTold =
+    (n : List ℕ) (f c : ℕ) (g : Endpoint) → MadeOf n f c g → (l : List Asked) (k : Cookies) (s : ℕ) (m : List ℕ) (h : ℕ) (out : List ℕ)
+    (st : Stage) (o : Freed) (count : ℕ) → step (ends g l) (Message s m h out) k .told .answer ≡ Answered st o count
+    → slotAt (next (ends g l) (Message s m h out) k) s .stage ≡ st
+
+-- a slot that a message on slot s ends is told: as the slot named, whose stage told is Free or whose refusal frees, or as the other slot
+pub data EndTold (s j : ℕ) (a : Answer) : Type 0 where
+  as-named : j ≡ s → (o : Freed) (count : ℕ) → a ≡ Answered Free o count → EndTold s j a
+  as-refused : j ≡ s → (r : Refusal) → a ≡ Refused r → messageFate r ≡ free → EndTold s j a
+  as-other : (st : Stage) (count : ℕ) → a ≡ Answered st (At j) count → EndTold s j a
+
+-- (Freed.ends-told)
+abbrev pub EndsTold : Type 0
+EndsTold =
+    (k : Cookies) (g : Endpoint) (s : ℕ) (f : List ℕ) (h : ℕ) (out : List ℕ) (j : ℕ) → (slotAt g j .stage ≡ Free → ⊥)
+    → slotAt (next g (Message s f h out) k) j .stage ≡ Free → EndTold s j (step g (Message s f h out) k .told .answer)
