@@ -4,6 +4,7 @@ use Rattle.handshake_rules.proofs.Secrecy.{demand3, no-secret-kept}
 use Rattle.handshake_rules.proofs.Connected.{only-by-digest, connected-by-digest}
 use Rattle.handshake_rules.proofs.Sent.{sent-challenge, sent-reply, last-sent}
 use Rattle.handshake_rules.proofs.Refused.{refused-quietly}
+use Rattle.handshake_rules.proofs.Numbers.{numbers}
 use Rattle.handshake_rules.proofs.Kept.{kept-whole, made-fresh}
 use Rattle.handshake_rules.proofs.Size.{writes-little}
 use Rattle.handshake_rules.proofs.Recorded.{recorded}
@@ -25,6 +26,7 @@ promises =
       sent-reply = sent-reply;
       last-sent = last-sent;
       refused-quietly = refused-quietly;
+      numbers = numbers;
       kept-whole = kept-whole;
       made-fresh = made-fresh;
       writes-little = writes-little;

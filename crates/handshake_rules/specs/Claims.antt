@@ -20,6 +20,7 @@ use Rattle.handshake_rules.specs.Cookie.{Cookies, checking, writing, all
 use Rattle.handshake_rules.specs.Plans.{spared, concluded}
 use Rattle.handshake_rules.specs.Calls.{newTests, startTests, begun, startOf, arriveTests, arrived, arriveOf, closeTests, closeOf, awaited, messageTests, messageOf}
 use Rattle.handshake_rules.specs.Runs.{Call, Start, Arrive, Close, Message, step, next, lent, left, used, checkOf, Given, moments, beforeSplit, All, Alike, Agree, Asked, ends, MadeOf}
+use Rattle.handshake_rules.specs.NumberClaims.{Numbers}
 use Rattle.handshake_rules.specs.MessageClaims.{NameReadBack, ChallengeReadBack, StatusReadBack, ReplyReadBack, AckReadBack, FrameSplits}
 use Rattle.handshake_rules.specs.SlotClaims.{OnlyByDigest, ConnectedByDigest, SentChallenge, SentReply, LastSent, Recorded, PeersApart, Lasting, SlotSteps, FreedWasTaken, StageTold, EndsTold}
 
@@ -128,6 +129,7 @@ pub record Promises : Type 0 where
   pub sent-reply : SentReply
   pub last-sent : LastSent
   pub refused-quietly : RefusedQuietly
+  pub numbers : Numbers
   pub kept-whole : KeptWhole
   pub made-fresh : MadeFresh
   pub writes-little : WritesLittle
