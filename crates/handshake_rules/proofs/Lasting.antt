@@ -2,7 +2,7 @@
 use Prim.Native.Nat.{ℕ, _<_}
 use mathlib.Core.Path.{_≡_, refl, sym, _∙_, ap, subst}
 use mathlib.Core.Logic.{_⊎_, inl, inr, ⊎-map, ⊎-elim}
-use mathlib.Core.Bool.{Bool, true, false}
+use mathlib.Core.Bool.{Bool, true, false, _&&_}
 use mathlib.Core.List.{List, []}
 use native.Mathlib.Omega.{arith}
 use lib.ListN.{length}
@@ -53,6 +53,12 @@ Freeing g sl (sure (stop r)) = Unit
 Freeing g sl (sure (go a)) = (o : ℕ) → a .other ≡ At o → Frees g sl 2 o
 Freeing g sl (proven c d a) = (o : ℕ) → a .other ≡ At o → Frees g sl 3 o × (peer (slotAt g o) ≡ peer sl)
 
+-- what is found by kind and peer
+pub seen : (k : ℕ) (n : List ℕ) (y : Slot) → (eqb (kindOf y) k && sameBytes (peer y) n) ≡ true → (kindOf y ≡ k) × (peer y ≡ n)
+seen k n y e =
+    let b = both-true (eqb (kindOf y) k) (sameBytes (peer y) n) e in
+    (eqb-true (kindOf y) k (b .0), same-decides (peer y) n .0 (b .1))
+
 none-freed : (o : ℕ) → Nothing ≡ At o → ⊥
 none-freed o e = let z : _≡_ {A = ℕ} 0 1 = cc in omega arith
 
@@ -65,8 +71,8 @@ module _ (g : Endpoint) (many : length (g .slots) ≡ 32) (sl : Slot) where
       let at : mine ≡ o = cc in
       let h = attempt-at g n mine e in
       let t : isSlot (lowest StartedTo n g) ≡ true = ap isSlot (h .1) ∙ lt-ltb mine 32 (h .0) in
-      let k = eqb-true (kindOf (slotAt g (lowest StartedTo n g))) 2 (and-left _ _ (found g many StartedTo n t)) in
-      record { within = omega (arith, h .0, at); kind = ap (λ (i : ℕ). kindOf (slotAt g i)) (sym (h .1 ∙ at)) ∙ k; here = ap kind st }
+      let k = seen 2 n (slotAt g (lowest StartedTo n g)) (found g many StartedTo n t) in
+      record { within = omega (arith, h .0, at); kind = ap (λ (i : ℕ). kindOf (slotAt g i)) (sym (h .1 ∙ at)) ∙ k .0; here = ap kind st }
   frees-on-name n f k c Alive st e = λ o e. absurd (none-freed o e)
   frees-on-name n f k c Ok st e = λ o e. absurd (none-freed o e)
 
@@ -79,13 +85,13 @@ module _ (g : Endpoint) (many : length (g .slots) ≡ 32) (sl : Slot) where
       by : (b : Bool) → isSlot j ≡ b → freedAt j b ≡ At o → Frees g sl 3 o × (peer (slotAt g o) ≡ peer sl)
       by true t e =
           let at : j ≡ o = cc in
-          let b = both-true (eqb (kindOf (slotAt g j)) 3) (sameBytes (peer (slotAt g j)) (peer sl)) (found g many ConnectedTo (peer sl) t) in (
+          let b = seen 3 (peer sl) (slotAt g j) (found g many ConnectedTo (peer sl) t) in (
             record {
               within = omega (arith, at, ltb-true j 32 t);
-              kind = ap (λ (i : ℕ). kindOf (slotAt g i)) (sym at) ∙ eqb-true (kindOf (slotAt g j)) 3 (b .0);
+              kind = ap (λ (i : ℕ). kindOf (slotAt g i)) (sym at) ∙ b .0;
               here = ap kind st;
             },
-            ap (λ (i : ℕ). peer (slotAt g i)) (sym at) ∙ same-decides (peer (slotAt g j)) (peer sl) .0 (b .1),
+            ap (λ (i : ℕ). peer (slotAt g i)) (sym at) ∙ b .1,
           )
       by false t e = let z : _≡_ {A = ℕ} 0 1 = cc in absurd (omega arith)
 
