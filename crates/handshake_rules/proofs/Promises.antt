@@ -1,6 +1,7 @@
 -- Every claim of specs/Claims, with its proof.
 use Rattle.handshake_rules.specs.Claims.{Promises}
 use Rattle.handshake_rules.proofs.Secrecy.{demand3, no-secret-kept}
+use Rattle.handshake_rules.proofs.Checks.{check-made}
 use Rattle.handshake_rules.proofs.Connected.{only-by-digest, connected-by-digest}
 use Rattle.handshake_rules.proofs.Sent.{sent-challenge, sent-reply, last-sent}
 use Rattle.handshake_rules.proofs.Refused.{refused-quietly}
@@ -19,6 +20,7 @@ pub promises : Promises
 promises =
     record {
       demand3 = demand3;
+      check-made = check-made;
       no-secret-kept = no-secret-kept;
       only-by-digest = only-by-digest;
       connected-by-digest = connected-by-digest;

@@ -2,21 +2,26 @@
 -- claim names the theorem in proofs/ that is its proof.
 use Prim.Native.Nat.{ℕ, _≤_}
 use mathlib.Core.Path.{_≡_}
-use mathlib.Core.Bool.{true, false}
+use mathlib.Core.Bool.{Bool, true, false}
+use mathlib.Core.Option.{Option, none, some}
 use mathlib.Core.List.{List, [], _∷_, map}
 use lib.ListN.{length}
+use Rattle.wire.specs.Run.{sameBytes}
+use Rattle.wire.specs.Frame.{body}
 use Rattle.names.specs.Held.{nameOf}
 use Rattle.names.specs.Full.{fullName}
 use Rattle.handshake_rules.specs.declared.refusal.Refusal.{Refusal}
 use Rattle.handshake_rules.specs.declared.endpoint.Stage.{Stage}
+use Rattle.handshake_rules.specs.declared.endpoint.Stage.the-variants.{Free, AwaitsName, AwaitsAlive, AwaitsReply, AwaitsStatus, AwaitsChallenge, AwaitsAck, Connected}
 use Rattle.handshake_rules.specs.declared.endpoint.Slot.{Slot}
 use Rattle.handshake_rules.specs.State.{Endpoint}
 use Rattle.handshake_rules.specs.declared.endpoint.Freed.{Freed}
 use Rattle.handshake_rules.specs.declared.endpoint.Answer.the-variants.{Refused, Closed, Answered}
-use Rattle.handshake_rules.specs.Refusals.{messageFate, Test, _given-if_}
+use Rattle.handshake_rules.specs.Refusals.{messageFate, Test, _given-if_, checked, unless}
 use Rattle.handshake_rules.specs.Flags.{goodFlags}
 use Rattle.handshake_rules.specs.Endpoint.{fresh, slotAt, put, freed, freeOther}
-use Rattle.handshake_rules.specs.Cookie.{Cookies, checking, writing, allowed, fit}
+use Rattle.handshake_rules.specs.Messages.{replyDigest, ackDigest}
+use Rattle.handshake_rules.specs.Cookie.{Cookies, checking, writing, allowed, fit, digestOf}
 use Rattle.handshake_rules.specs.Plans.{spared, concluded}
 use Rattle.handshake_rules.specs.Calls.{newTests, startTests, begun, startOf, arriveTests, arrived, arriveOf, closeTests, closeOf, awaited, messageTests, messageOf}
 use Rattle.handshake_rules.specs.Runs.{Call, Start, Arrive, Close, Message, step, next, lent, left, used, checkOf, Given, moments, beforeSplit, All, Alike, Agree, Asked, ends, MadeOf}
@@ -38,6 +43,25 @@ abbrev pub Demand3 : Type 0
 Demand3 =
     (n : List ℕ) (f c : ℕ) (g h : Endpoint) → MadeOf n f c g → MadeOf n f c h → (calls : List Given)
     → All Alike (beforeSplit (moments g h calls)) → All Agree (beforeSplit (moments g h calls))
+
+-- "A digest check is made by a message that comes to the rule of awaits reply or awaits acknowledgement; it passes if the digest read is that of the
+-- challenge" which the slot holds (LastSent: the one last sent on it), "with the call's cookie". Any endpoint (Checks.check-made)
+abbrev pub checkAt : Stage → Slot → List ℕ → List ℕ → Option Bool
+checkAt Free sl b k = none
+checkAt AwaitsName sl b k = none
+checkAt AwaitsAlive sl b k = none
+checkAt AwaitsReply sl b k = some (sameBytes (replyDigest b) (digestOf (sl .challenge) k))
+checkAt AwaitsStatus sl b k = none
+checkAt AwaitsChallenge sl b k = none
+checkAt AwaitsAck sl b k = some (sameBytes (ackDigest b) (digestOf (sl .challenge) k))
+checkAt Connected sl b k = none
+
+abbrev pub CheckMade : Type 0
+CheckMade =
+    (g : Endpoint) (s : ℕ) (f : List ℕ) (c : ℕ) (out : List ℕ) (k : Cookies)
+    → checkOf g (Message s f c out) k
+    ≡ unless (λ r. none) (checkAt (slotAt g s .stage) (slotAt g s) (body f) (checking k))
+    (checked (messageTests g s (length out) (fit (slotAt g s .stage) (checking k) (writing k)) f (awaited g s f c)))
 
 -- A slot record "holds no cookie byte and no digest byte": of the cookies lent to a call the endpoint after it, and what it tells, depend only on whether
 -- those used are of allowed length and on the verdict of the digest check. Any endpoint, any call (Secrecy.no-secret-kept)
@@ -122,6 +146,7 @@ AnswerTells =
 -- ---- all of it (Promises.promises): a claim that is not proved is missed here
 pub record Promises : Type 0 where
   pub demand3 : Demand3
+  pub check-made : CheckMade
   pub no-secret-kept : NoSecretKept
   pub only-by-digest : OnlyByDigest
   pub connected-by-digest : ConnectedByDigest
