@@ -1,6 +1,6 @@
 -- An endpoint as it lies in bytes that a host lends: its own name, flags and creation, and behind them a record for each slot. Whoever reads or writes
 -- them goes by these layouts; the offsets and widths of the code are theirs.
-use Prim.Native.Nat.{ℕ, _+_, _*_, _≤_}
+use Prim.Native.Nat.{ℕ, _+_, _*_}
 use mathlib.Core.Path.{_≡_}
 use mathlib.Core.List.{List, [], _∷_}
 use lib.ListN.{length, getD}
@@ -14,8 +14,7 @@ use Rattle.handshake_rules.specs.declared.endpoint.Making.{Making}
 use Rattle.handshake_rules.specs.declared.endpoint.Making.the-variants.{Ready, NotMade}
 use Rattle.handshake_rules.specs.State.{Endpoint, Told, Made}
 use Rattle.handshake_rules.specs.Endpoint.{stageNumber, stageOf}
-use Rattle.handshake_rules.specs.Plans.{Done}
-use Rattle.handshake_rules.specs.Calls.{room}
+use Rattle.handshake_rules.specs.Plans.{Done, Plan, concluded}
 
 -- ---- layouts
 
@@ -98,6 +97,15 @@ Tells t a after = toldIn a after ≡ t
 abbrev pub Does : Done → Answer → List ℕ → List ℕ → List ℕ → Type 0
 Does d a after out left = (Tells (d .told) a after) × (left ≡ written (d .bytes) out)
 
+-- a message on slot s whose plan is concluded with this cookie; and one whose plan needs none, so that it is concluded alike with every cookie
+abbrev pub Concludes : List ℕ → ℕ → (Endpoint → Plan) → List ℕ → Answer → List ℕ → List ℕ → List ℕ → Type 0
+Concludes k s plan before a after out left = Does (concluded k k (endpointOf before) s (plan (endpointOf before))) a after out left
+
+abbrev pub ConcludesAlike : ℕ → (Endpoint → Plan) → List ℕ → Answer → List ℕ → List ℕ → List ℕ → Type 0
+ConcludesAlike s plan before a after out left =
+    ((k : List ℕ) → Tells (concluded k k (endpointOf before) s (plan (endpointOf before)) .told) a after)
+    × ((k : List ℕ) → left ≡ written (concluded k k (endpointOf before) s (plan (endpointOf before)) .bytes) out)
+
 -- where making refuses, the bytes are not touched
 abbrev pub ifMade : Making → Endpoint → Endpoint → Endpoint
 ifMade Ready made kept = made
@@ -109,7 +117,3 @@ Makes m a before after = (a ≡ m .making) × (endpointOf after ≡ ifMade a (m 
 -- an endpoint with another name, flags and creation of its own
 abbrev pub ownedBy : Name → ℕ → ℕ → Endpoint → Endpoint
 ownedBy n f c g = record { name = n; flags = f; creation = c; slots = g .slots }
-
--- as much output as start and message ask for
-abbrev pub Roomy : List ℕ → Type 0
-Roomy out = room ≤ length out

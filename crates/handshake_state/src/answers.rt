@@ -10,10 +10,11 @@ ghost use mathlib.Core.Path.{_≡_};
 ghost use Prim.Native.Nat.{_≤_, _<_};
 ghost use lib.ListN.{length};
 ghost use Rattle.handshake_rules.specs.declared.endpoint.Freed.the-variants.{Nothing};
+ghost use Rattle.handshake_rules.specs.Calls.{Roomy};
 ghost use Rattle.handshake_rules.specs.Endpoint.{freed};
 ghost use Rattle.handshake_rules.specs.Messages.{statusMessage};
 ghost use Rattle.handshake_rules.specs.Plans as plans;
-ghost use Rattle.handshake_state.specs.Bytes.{Whole, Roomy, endpointOf, Tells, Does};
+ghost use Rattle.handshake_state.specs.Bytes.{Whole, endpointOf, Tells, Does};
 
 // Frees a slot.
 pub fn without(state: &mut [u8], at: usize)

@@ -15,18 +15,28 @@ ghost use Rattle.handshake_state.specs.Bytes.{numbersL, slotSize, record
 
 // Our own name, flags and creation.
 const OWN_LEN: usize = 0;
+
 const OWN_NAME: usize = OWN_LEN + 1;
+
 const OWN_FLAGS: usize = OWN_NAME + 255;
+
 const OWN_CREATION: usize = OWN_FLAGS + 8;
+
 const OWN: usize = OWN_CREATION + 4;
 
 // A slot's record.
 const FLAGS: usize = 0;
+
 const CREATION: usize = FLAGS + 8;
+
 const CHALLENGE: usize = CREATION + 4;
+
 pub(crate) const STAGE: usize = CHALLENGE + 4;
+
 pub(crate) const LEN: usize = STAGE + 1;
+
 pub(crate) const NAME: usize = LEN + 1;
+
 const RECORD: usize = NAME + 255;
 
 // What a state takes.
@@ -98,7 +108,10 @@ pub fn own_name(state: &[u8]) -> Name
     requires { ⌜ Whole (now state) ⌝ }
     ensures { λ r. ⌜ r ≡ endpointOf (now (state .entry)) .name ⌝ }
 {
-    Name::held(wire::get_part(state, OWN_NAME, 255), wire::get8(state, OWN_LEN))
+    Name::held(
+        wire::get_part(state, OWN_NAME, 255),
+        wire::get8(state, OWN_LEN),
+    )
 }
 
 pub fn own_flags(state: &[u8]) -> u64

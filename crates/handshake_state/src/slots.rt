@@ -1,4 +1,5 @@
 // Slots as values: the stage of a number and its kind, a free slot, a slot's next record.
+use crate::bytes::STAGE;
 use crate::bytes::record_of;
 use crate::bytes::slot_of;
 use handshake_rules::endpoint::Slot;
@@ -79,6 +80,17 @@ pub fn sent(slot: Slot, stage: Stage, challenge: u32) -> Slot
         creation: slot.creation,
         challenge,
     }
+}
+
+// The stage of a slot; past the last slot, free.
+pub fn stage_at(state: &[u8], at: usize) -> Stage
+    requires { ⌜ Whole (now state) ⌝ }
+    ensures { λ r. ⌜ r ≡ spec.slotAt (endpointOf (now (state .entry))) at .stage ⌝ }
+{
+    if 32 <= at {
+        return Stage::Free;
+    }
+    stage_of(wire::get8(record_of(state, at), STAGE))
 }
 
 // A slot's record; past the last slot, that of a free one.

@@ -4,15 +4,15 @@ use mathlib.Core.Path.{_≡_, refl, sym, _∙_, ap}
 use mathlib.Core.List.{List, []}
 use Rattle.names.specs.Full.{fullName}
 use Rattle.names.specs.Held.{nameOf}
-use Rattle.handshake_rules.specs.State.{Stored}
+use Rattle.handshake_rules.specs.declared.endpoint.Slot.{Slot}
 use Rattle.handshake_rules.specs.Flags.{goodFlags}
 use Rattle.handshake_rules.specs.Calls.{newOf}
-use Rattle.handshake_state.specs.Lent.{ownedBy, endpointOf}
+use Rattle.handshake_state.specs.Bytes.{ownedBy, endpointOf}
 use Rattle.handshake_rules.proofs.MessageLaws.{full-short}
-use Rattle.handshake_state.proofs.LentLaws.{none-taken}
+use Rattle.handshake_state.proofs.BytesLaws.{none-taken}
 use borrow.Author.Needs.{needs}
-use Rattle.handshake.proofs.lent.make.Statement.{statement}
-use Rattle.handshake.proofs.lent.make.Tie as tie
+use Rattle.handshake.proofs.calls.make.Statement.{statement}
+use Rattle.handshake.proofs.calls.make.Tie as tie
 
 is-full-name-requires : tie.Need-is-full-name-requires
 is-full-name-requires c κs = search needs
@@ -42,7 +42,7 @@ returns-3 c =
     let a = c .before .before .before .before .before .before .before .before .args in
     let e : fullName (c .before .before .before .before .before .before .before .before .args .name .now) ≡ true = sym (c .before .before .before .before .before .before .is-full-name .ensures) ∙ not-false (c .before .before .before .before .before .before .is-full-name .result) (c .before .before .before .before .before .if1 .left) in
     let f : goodFlags (c .before .before .before .before .before .before .before .before .args .flags) ≡ true = sym (c .before .before .before .before .good-flags .ensures) ∙ not-false (c .before .before .before .before .good-flags .result) (c .before .before .before .if2 .left) in
-    let p = c .put-own .ensures ∙ ap (λ (l : List Stored). ownedBy (nameOf (a .name .now)) (a .flags) (a .creation) (record { name = nameOf []; flags = 0; creation = 0; slots = l })) none-taken in
+    let p = c .put-own .ensures ∙ ap (λ (l : List Slot). ownedBy (nameOf (a .name .now)) (a .flags) (a .creation) (record { name = nameOf []; flags = 0; creation = 0; slots = l })) none-taken in
     rw (e, f) (refl, p)
 
 pub make-spec : {M : Type 1} → statement M

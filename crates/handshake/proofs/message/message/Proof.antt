@@ -5,22 +5,22 @@ use Rattle.handshake_rules.specs.Plans.{refused}
 use Rattle.handshake_rules.specs.Cookie.{Cookies, cookies, fit}
 use Rattle.handshake_rules.specs.Refusals.{checked}
 use Rattle.handshake_rules.specs.declared.refusal.Check.{Check}
-use Rattle.handshake_rules.specs.declared.endpoint.Slot.{Slot}
+use Rattle.handshake_rules.specs.declared.endpoint.Stage.{Stage}
 use Rattle.wire.proofs.OutputLaws.{written-none}
 use lib.ListN.{length}
 use mathlib.Core.List.{List}
 use mathlib.Core.Path.{sym, ap₂, _∙_}
 use Prim.Native.Nat.{ℕ}
-use Rattle.handshake_state.specs.Lent.{endpointOf, toldIn}
+use Rattle.handshake_state.specs.Bytes.{endpointOf, toldIn}
 use borrow.Author.Needs.{needs}
-use Rattle.handshake.proofs.endpoint.Endpoint.message_in.Statement.{statement}
-use Rattle.handshake.proofs.endpoint.Endpoint.message_in.Tie as tie
+use Rattle.handshake.proofs.message.message.Statement.{statement}
+use Rattle.handshake.proofs.message.message.Tie as tie
 
 choose-requires : tie.Need-choose-requires
 choose-requires c κs = search needs
 
-slot-requires : tie.Need-slot-requires
-slot-requires c κs = search needs
+stage-at-requires : tie.Need-stage-at-requires
+stage-at-requires c κs = search needs
 
 check-early-requires : tie.Need-check-early-requires
 check-early-requires c κs = search needs
@@ -37,7 +37,7 @@ enum-told c = search needs
 on-frame-requires : tie.Need-on-frame-requires
 on-frame-requires c κs =
     let a = c .before .before .before .before .before .before .before .before .before .before .before .before .before .args in
-    let st = c .before .before .before .before .before .slot .result .stage in
+    let st = c .before .before .before .before .before .stage-at .result in
     let k = c .before .before .before .before .before .before .before .choose .result .now in
     let m = early-passed (a .slot) st (length (a .out .now)) (fit st k k) (sym (c .before .before .before .before .check-early .ensures) ∙ c .before .before .enum-told .given .1) in
     (m .0, m .1, m .2, search needs)
@@ -51,8 +51,8 @@ returns c =
     let n = length (a .out .now) in
     let r = c .before .before .before .before .before .why .given .0 .0 in
     let k : Cookies = cookies (a .own .now) (a .standard .now) in
-    let E : Slot → List ℕ → Check = λ s x. checked (earlyTests (a .slot) (s .stage) n (fit (s .stage) x x)) in
-    let e = ap₂ E (sym (c .before .before .before .before .before .before .before .before .slot .ensures)) (sym (c .before .before .before .before .before .before .before .before .before .before .choose .ensures)) ∙ sym (c .before .before .before .before .before .before .before .check-early .ensures) ∙ c .before .before .before .before .before .why .given .1 in
+    let E : Stage → List ℕ → Check = λ s x. checked (earlyTests (a .slot) s n (fit s x x)) in
+    let e = ap₂ E (sym (c .before .before .before .before .before .before .before .before .stage-at .ensures)) (sym (c .before .before .before .before .before .before .before .before .before .before .choose .ensures)) ∙ sym (c .before .before .before .before .before .before .before .check-early .ensures) ∙ c .before .before .before .before .before .why .given .1 in
     settle (messageOf k ((endpointOf (a .state .now))) (a .slot) (a .frame .now) (a .challenge) n) (refused ((endpointOf (a .state .now))) (a .slot) r)
     (message-refused k ((endpointOf (a .state .now))) (a .slot) (a .frame .now) (a .challenge) n r e) (a .out .now) (c .before .before .refuse .ensures) (sym (written-none (a .out .now)))
 
@@ -67,21 +67,21 @@ returns-2 c =
     let a = c .before .before .before .before .before .before .before .before .before .before .before .before .before .before .before .before .before .before .args in
     let n = length (a .out .now) in
     let x = c .before .before .before .before .before .before .before .before .before .before .before .before .choose .result .now in
-    let s = c .before .before .before .before .before .before .before .before .before .before .slot .result in
+    let s = c .before .before .before .before .before .before .before .before .before .before .stage-at .result in
     let k : Cookies = cookies (a .own .now) (a .standard .now) in
-    let E : Slot → List ℕ → Check = λ s x. checked (earlyTests (a .slot) (s .stage) n (fit (s .stage) x x)) in
-    let e = ap₂ E (sym (c .before .before .before .before .before .before .before .before .before .before .slot .ensures)) (sym (c .before .before .before .before .before .before .before .before .before .before .before .before .choose .ensures)) ∙ sym (c .before .before .before .before .before .before .before .before .before .check-early .ensures) ∙ c .before .before .before .before .before .before .before .enum-told .given .1 in
-    settle (messageOf k ((endpointOf (a .state .now))) (a .slot) (a .frame .now) (a .challenge) n) (onFrame x x ((endpointOf (a .state .now))) (a .slot) (s .stage) (a .frame .now) (a .challenge))
+    let E : Stage → List ℕ → Check = λ s x. checked (earlyTests (a .slot) s n (fit s x x)) in
+    let e = ap₂ E (sym (c .before .before .before .before .before .before .before .before .before .before .stage-at .ensures)) (sym (c .before .before .before .before .before .before .before .before .before .before .before .before .choose .ensures)) ∙ sym (c .before .before .before .before .before .before .before .before .before .check-early .ensures) ∙ c .before .before .before .before .before .before .before .enum-told .given .1 in
+    settle (messageOf k ((endpointOf (a .state .now))) (a .slot) (a .frame .now) (a .challenge) n) (onFrame x x ((endpointOf (a .state .now))) (a .slot) s (a .frame .now) (a .challenge))
     (message-framed k ((endpointOf (a .state .now))) (a .slot) (a .frame .now) (a .challenge) n e
-    ∙ ap₂ (λ (t : Slot) (y : List ℕ). onFrame y y ((endpointOf (a .state .now))) (a .slot) (t .stage) (a .frame .now) (a .challenge)) (sym (c .before .before .before .before .before .before .before .before .before .before .slot .ensures)) (sym (c .before .before .before .before .before .before .before .before .before .before .before .before .choose .ensures)))
+    ∙ ap₂ (λ (t : Stage) (y : List ℕ). onFrame y y ((endpointOf (a .state .now))) (a .slot) t (a .frame .now) (a .challenge)) (sym (c .before .before .before .before .before .before .before .before .before .before .stage-at .ensures)) (sym (c .before .before .before .before .before .before .before .before .before .before .before .before .choose .ensures)))
     (a .out .now) (c .before .before .before .before .on-frame .ensures .0) (c .before .before .before .before .on-frame .ensures .1)
 
-pub message-in-spec : {M : Type 1} → statement M
-message-in-spec =
+pub message-spec : {M : Type 1} → statement M
+message-spec =
     tie.close
     (tie.spec
     choose-requires
-    slot-requires
+    stage-at-requires
     check-early-requires
     enum-known-why
     refuse-requires

@@ -3,10 +3,10 @@ use Rattle.handshake_rules.specs.Calls.{startOf, begun, silent, kept}
 use Rattle.wire.proofs.OutputLaws.{written-none}
 use lib.ListN.{length}
 use mathlib.Core.Path.{refl, sym, _∙_}
-use Rattle.handshake_state.specs.Lent.{endpointOf, toldIn}
+use Rattle.handshake_state.specs.Bytes.{endpointOf, toldIn}
 use borrow.Author.Needs.{needs}
-use Rattle.handshake.proofs.endpoint.Endpoint.start_in.Statement.{statement}
-use Rattle.handshake.proofs.endpoint.Endpoint.start_in.Tie as tie
+use Rattle.handshake.proofs.start.start.Statement.{statement}
+use Rattle.handshake.proofs.start.start.Tie as tie
 
 check-start-requires : tie.Need-check-start-requires
 check-start-requires c κs = search needs
@@ -47,8 +47,8 @@ returns-2 c =
     settle (startOf ((endpointOf (a .state .now))) (a .name .now) n) (begun ((endpointOf (a .state .now))) (a .name .now))
     (start-begun ((endpointOf (a .state .now))) (a .name .now) n (sym (c .before .before .before .before .before .before .before .before .before .check-start .ensures) ∙ c .before .before .before .before .before .before .before .enum-told .given .1)) (a .out .now) (c .before .before .before .before .begin .ensures .0) (c .before .before .before .before .begin .ensures .1)
 
-pub start-in-spec : {M : Type 1} → statement M
-start-in-spec =
+pub start-spec : {M : Type 1} → statement M
+start-spec =
     tie.close
     (tie.spec
     check-start-requires
