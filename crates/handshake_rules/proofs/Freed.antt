@@ -6,26 +6,27 @@ use mathlib.Core.Bool.{Bool, true, false, _||_, true≢false}
 use mathlib.Core.List.{List}
 use native.Mathlib.Omega.{arith}
 use lib.ListN.{length}
-use lib.Dec.{leb}
-use borrow.Author.Tests.{leb-false}
+use lib.Dec.{leb, eqb}
+use borrow.Author.Tests.{leb-true, leb-false, ne-eqb}
 use Rattle.wire.specs.Frame.{body}
 use Rattle.handshake_rules.specs.declared.refusal.Refusal.{Refusal}
 use Rattle.handshake_rules.specs.declared.endpoint.Stage.{Stage}
-use Rattle.handshake_rules.specs.declared.endpoint.Stage.the-variants.{Free}
+use Rattle.handshake_rules.specs.declared.endpoint.Stage.the-variants.{Free, AwaitsName, AwaitsAlive, AwaitsReply, AwaitsStatus, AwaitsChallenge, AwaitsAck, Connected}
 use Rattle.handshake_rules.specs.declared.endpoint.Slot.{Slot}
 use Rattle.handshake_rules.specs.State.{Endpoint}
 use Rattle.handshake_rules.specs.declared.endpoint.Freed.{Freed}
 use Rattle.handshake_rules.specs.declared.endpoint.Freed.the-variants.{Nothing, At}
 use Rattle.handshake_rules.specs.declared.endpoint.Answer.{Answer}
 use Rattle.handshake_rules.specs.declared.endpoint.Answer.the-variants.{Refused, Answered}
-use Rattle.handshake_rules.specs.Refusals.{Fate, keep, free, messageFate}
-use Rattle.handshake_rules.specs.Endpoint.{freeSlot, slotAt, put, freed, freeOther}
+use Rattle.handshake_rules.specs.Refusals.{Fate, keep, free, messageFate, isFree}
+use Rattle.handshake_rules.specs.Answers.{endsSlot}
+use Rattle.handshake_rules.specs.Endpoint.{freeSlot, stageNumber, slotAt, put, freed, freeOther}
 use Rattle.handshake_rules.specs.Cookie.{Cookies, checking, writing, fit}
 use Rattle.handshake_rules.specs.Plans.{Done, Act, stop, go, Plan, sure, proven, settled, spared, refused}
 use Rattle.handshake_rules.specs.Calls.{expected, awaited, earlyTests, messageOf}
 use Rattle.handshake_rules.specs.Runs.{Message, step, ends}
-use Rattle.handshake_rules.specs.SlotClaims.{kindOf, WasTaken, FreedWasTaken, StageTold, EndTold, as-named, as-refused, as-other, EndsTold}
-use Rattle.handshake_rules.proofs.SlotLaws.{put-at, put-same, put-other}
+use Rattle.handshake_rules.specs.SlotClaims.{kindOf, WasTaken, FreedWasTaken, StageTold, EndTold, as-named, as-refused, as-other, EndsTold, EndExact}
+use Rattle.handshake_rules.proofs.SlotLaws.{put-at, put-same, put-other, past-last}
 use Rattle.handshake_rules.proofs.Kept.{kept-whole, alike-other}
 use Rattle.handshake_rules.proofs.Lasting.{Frees, Freeing, frees-rule}
 use Rattle.handshake_rules.proofs.Changes.{Acted, Came, stops, acts, came, OnAct, act-of}
@@ -33,6 +34,16 @@ use Rattle.handshake_rules.proofs.Changes.{Acted, Came, stops, acts, ca
 or-left : (x y : Bool) → (x || y) ≡ false → x ≡ false
 or-left true y e = absurd (true≢false e)
 or-left false y e = refl
+
+stage-free : (st : Stage) → stageNumber st ≡ 0 → st ≡ Free
+stage-free Free e = refl
+stage-free AwaitsName e = absurd (omega arith)
+stage-free AwaitsAlive e = absurd (omega arith)
+stage-free AwaitsReply e = absurd (omega arith)
+stage-free AwaitsStatus e = absurd (omega arith)
+stage-free AwaitsChallenge e = absurd (omega arith)
+stage-free AwaitsAck e = absurd (omega arith)
+stage-free Connected e = absurd (omega arith)
 
 -- ---- the slot told as freed
 
@@ -78,6 +89,33 @@ module _ (g : Endpoint) (many : length (g .slots) ≡ 32) (k : Cookies) (s : ℕ
       let within : s < 32 = leb-false 32 s (or-left (leb 32 s) _ (d .passes .1 .0)) in
       ap (λ (x : Done). slotAt (x .told .endpoint) s .stage) (d .done)
       ∙ ap (λ (x : Slot). x .stage) (put-same (freeOther g (a .other)) s (a .slot) (omega (arith, many, alike-other g (a .other) .slots))) ∙ e
+
+  taken-within : (slotAt g s .stage ≡ Free → ⊥) → s < 32
+  taken-within up = by (leb 32 s) refl
+    where
+      by : (b : Bool) → leb 32 s ≡ b → s < 32
+      by true e = absurd (up (ap (λ (x : Slot). x .stage) (past-last g s (omega (arith, many, leb-true 32 s e)))))
+      by false e = leb-false 32 s e
+
+  end-spared : (slotAt g s .stage ≡ Free → ⊥) → (x : Fate) → isFree x ≡ eqb (stageNumber (slotAt (spared g s x) s .stage)) 0
+  end-spared up keep = sym (ne-eqb (stageNumber (slotAt g s .stage)) 0 (λ e. up (stage-free (slotAt g s .stage) e)))
+  end-spared up free =
+      sym (ap (λ (x : Slot). eqb (stageNumber (x .stage)) 0) (put-same g s freeSlot (omega (arith, many, taken-within up))))
+
+  end-told : (slotAt g s .stage ≡ Free → ⊥) → Came k g s m h (length out)
+      → endsSlot (messageOf k g s m h (length out) .told .answer) ≡ eqb (stageNumber (slotAt end s .stage)) 0
+  end-told up (stops r e) =
+      ap (λ (d : Done). endsSlot (d .told .answer)) e ∙ end-spared up (messageFate r)
+      ∙ ap (λ (d : Done). eqb (stageNumber (slotAt (d .told .endpoint) s .stage)) 0) (sym e)
+  end-told up (acts a d) =
+      let e = ap (λ (x : Done). x .told .answer) (d .done) in
+      ap endsSlot e
+      ∙ ap (λ (st : Stage). eqb (stageNumber st) 0) (sym (told-stage (a .slot .stage) (a .other) _ (acts a d) e))
+
+pub end-exact : EndExact
+unfolding step
+end-exact n f c g made l k s m h out up =
+    end-told (ends g l) (kept-whole n f c g made l .slots) k s m h out up (came k (ends g l) s m h (length out))
 
 pub freed-was-taken : FreedWasTaken
 unfolding step

@@ -3,10 +3,11 @@ use Prim.Native.Nat.{ℕ}
 use mathlib.Core.Path.{_≡_, refl, sym, _∙_, ap, subst}
 use mathlib.Core.Bool.{Bool, true, false, true≢false, cond, not, _||_}
 use mathlib.Core.List.{List, [], _∷_, _++_}
+use lib.ListN.{getD}
 use Rattle.wire.specs.Run.{sameBytes}
 use Rattle.wire.specs.Frame.{body}
 use Rattle.wire.proofs.RunLaws.{same-decides}
-use Rattle.handshake_rules.specs.declared.refusal.Refusal.the-variants.{UnknownStatus, WrongDigest, Declined}
+use Rattle.handshake_rules.specs.declared.refusal.Refusal.the-variants.{OutputTooShort, SlotNotTaken, NotAFrame, UnknownTag, BadLength, BadName, BadFlags, AlreadyConnected, BadCookie, PeerTaken, NoFreeSlot, UnknownStatus, WrongDigest, Declined}
 use Rattle.handshake_rules.specs.declared.refusal.Check.{Check}
 use Rattle.handshake_rules.specs.declared.refusal.Check.the-variants.{Pass, Refuse}
 use Rattle.handshake_rules.specs.declared.endpoint.Stage.{Stage}
@@ -26,7 +27,8 @@ use Rattle.handshake_rules.specs.Plans.{Done, Act, Outcome, stop, go, su
 use Rattle.handshake_rules.specs.Accepting.{greeting, onName}
 use Rattle.handshake_rules.specs.Connecting.{reaction, onStatus}
 use Rattle.handshake_rules.specs.Calls.{newTests, notMade, newOf, startTests, begun, silent, kept, startOf, arriveTests, arrived, arriveOf, closeTests, closeOf, expected, awaited, messageTests, plan, messageOf}
-use Rattle.handshake_rules.specs.NumberClaims.{refusalOf, makingRefusal, isOneOf, ruleTests, allTests, Numbers}
+use Rattle.handshake_rules.specs.Answers.{unrefused, makingNumber, numbersOf}
+use Rattle.handshake_rules.specs.NumberClaims.{checkNumber, NumbersApart, isOneOf, ruleTests, allTests, GivenExactly}
 use Rattle.handshake_rules.specs.Claims.{NoneHolds}
 use Rattle.handshake_rules.proofs.CheckLaws.{andThen, checked-append, none-holds}
 
@@ -95,31 +97,31 @@ module _ (k : List ℕ) (g : Endpoint) (sl : Slot) (b : List ℕ) (c : ℕ) wher
 
 -- ---- the calls
 
-finished-refusal : (w : List ℕ) (g : Endpoint) (s : ℕ) (o : Outcome) → refusalOf (finished w g s o .told .answer) ≡ stopOf o
+finished-refusal : (w : List ℕ) (g : Endpoint) (s : ℕ) (o : Outcome) → numbersOf (finished w g s o .told .answer) .refusal ≡ checkNumber (stopOf o)
 unfolding finished
 finished-refusal w g s (stop r) = refl
 finished-refusal w g s (go a) = refl
 
-made-number : (n : List ℕ) (f c : ℕ) (x : Check) → makingRefusal (unless notMade (record { making = Ready; endpoint = fresh n f c }) x .making) ≡ x
+made-number : (n : List ℕ) (f c : ℕ) (x : Check) → makingNumber (unless notMade (record { making = Ready; endpoint = fresh n f c }) x .making) ≡ checkNumber x
 made-number n f c Pass = refl
 made-number n f c (Refuse r) = refl
 
-start-number : (g : Endpoint) (n : List ℕ) (x : Check) → refusalOf (unless (λ r. silent (kept g r)) (begun g n) x .told .answer) ≡ x
+start-number : (g : Endpoint) (n : List ℕ) (x : Check) → numbersOf (unless (λ r. silent (kept g r)) (begun g n) x .told .answer) .refusal ≡ checkNumber x
 start-number g n Pass = refl
 start-number g n (Refuse r) = refl
 
-arrive-number : (g : Endpoint) (x : Check) → refusalOf (unless (kept g) (arrived g) x .answer) ≡ x
+arrive-number : (g : Endpoint) (x : Check) → numbersOf (unless (kept g) (arrived g) x .answer) .refusal ≡ checkNumber x
 arrive-number g Pass = refl
 arrive-number g (Refuse r) = refl
 
-close-number : (g : Endpoint) (s : ℕ) (x : Check) → refusalOf (unless (kept g) (record { answer = Closed; endpoint = freed g s }) x .answer) ≡ x
+close-number : (g : Endpoint) (s : ℕ) (x : Check) → numbersOf (unless (kept g) (record { answer = Closed; endpoint = freed g s }) x .answer) .refusal ≡ checkNumber x
 close-number g s Pass = refl
 close-number g s (Refuse r) = refl
 
 message-number : (k : Cookies) (g : Endpoint) (s : ℕ) (f : List ℕ) (c size : ℕ)
-    → refusalOf (messageOf k g s f c size .told .answer) ≡ checked (allTests k g s f c size)
+    → numbersOf (messageOf k g s f c size .told .answer) .refusal ≡ checkNumber (checked (allTests k g s f c size))
 unfolding messageOf plan settled finished
-message-number k g s f c size = by (checked tests) refl ∙ sym (checked-append tests rules)
+message-number k g s f c size = by (checked tests) refl ∙ ap checkNumber (sym (checked-append tests rules))
   where
     tests : List Test
     tests = messageTests g s size (fit (slotAt g s .stage) (checking k) (writing k)) f (awaited g s f c)
@@ -127,19 +129,19 @@ message-number k g s f c size = by (checked tests) refl ∙ sym (checked-append 
     rules : List Test
     rules = ruleTests (slotAt g s .stage) (slotAt g s) (body f) (checking k)
 
-    ends : Check → Check
-    ends x = refusalOf (concluded (checking k) (writing k) g s (unless fails (awaited g s f c .rule) x) .told .answer)
+    ends : Check → ℕ
+    ends x = numbersOf (concluded (checking k) (writing k) g s (unless fails (awaited g s f c .rule) x) .told .answer) .refusal
 
-    by : (x : Check) → checked tests ≡ x → ends (checked tests) ≡ andThen (checked tests) (checked rules)
+    by : (x : Check) → checked tests ≡ x → ends (checked tests) ≡ checkNumber (andThen (checked tests) (checked rules))
     by Pass e =
         ap ends e ∙ finished-refusal (writing k) g s (settled (checking k) (awaited g s f c .rule))
-        ∙ rule (checking k) g (slotAt g s) (body f) c (slotAt g s .stage) refl (none-holds tests e .1 .1 .1 .1 .1)
-        ∙ ap (λ (x : Check). andThen x (checked rules)) (sym e)
-    by (Refuse r) e = ap ends e ∙ ap (λ (x : Check). andThen x (checked rules)) (sym e)
+        ∙ ap checkNumber (rule (checking k) g (slotAt g s) (body f) c (slotAt g s .stage) refl (none-holds tests e .1 .1 .1 .1 .1))
+        ∙ ap (λ (x : Check). checkNumber (andThen x (checked rules))) (sym e)
+    by (Refuse r) e = ap ends e ∙ ap (λ (x : Check). checkNumber (andThen x (checked rules))) (sym e)
 
-pub numbers : Numbers
+pub given-exactly : GivenExactly
 unfolding newOf startOf arriveOf closeOf
-numbers =
+given-exactly =
     record {
       making = λ n f c. made-number n f c (checked (newTests n f));
       start = λ g n size. start-number g n (checked (startTests g n size));
@@ -147,3 +149,35 @@ numbers =
       close = λ g s. close-number g s (checked (closeTests g s));
       message = message-number;
     }
+
+-- ---- numbers apart
+
+-- the refusals in the order of their numbers; 7 and 8 are the mapper's
+abbrev byNumber : List Check
+byNumber =
+    Pass ∷ Refuse OutputTooShort ∷ Refuse SlotNotTaken ∷ Refuse NotAFrame ∷ Refuse UnknownTag ∷ Refuse BadLength ∷ Refuse BadName ∷ Pass ∷ Pass
+    ∷ Refuse BadFlags ∷ Refuse AlreadyConnected ∷ Refuse BadCookie ∷ Refuse PeerTaken ∷ Refuse NoFreeSlot ∷ Refuse UnknownStatus
+    ∷ Refuse WrongDigest ∷ Refuse Declined ∷ []
+
+abbrev numbered : ℕ → Check
+numbered n = getD byNumber n Pass
+
+back : (x : Check) → numbered (checkNumber x) ≡ x
+back Pass = refl
+back (Refuse OutputTooShort) = refl
+back (Refuse SlotNotTaken) = refl
+back (Refuse NotAFrame) = refl
+back (Refuse UnknownTag) = refl
+back (Refuse BadLength) = refl
+back (Refuse BadName) = refl
+back (Refuse BadFlags) = refl
+back (Refuse AlreadyConnected) = refl
+back (Refuse BadCookie) = refl
+back (Refuse PeerTaken) = refl
+back (Refuse NoFreeSlot) = refl
+back (Refuse UnknownStatus) = refl
+back (Refuse WrongDigest) = refl
+back (Refuse Declined) = refl
+
+pub numbers-apart : NumbersApart
+numbers-apart x y e = sym (back x) ∙ ap numbered e ∙ back y

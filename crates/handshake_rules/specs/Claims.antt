@@ -25,9 +25,9 @@ use Rattle.handshake_rules.specs.Cookie.{Cookies, checking, writing, all
 use Rattle.handshake_rules.specs.Plans.{spared, concluded}
 use Rattle.handshake_rules.specs.Calls.{newTests, startTests, begun, startOf, arriveTests, arrived, arriveOf, closeTests, closeOf, awaited, messageTests, messageOf}
 use Rattle.handshake_rules.specs.Runs.{Call, Start, Arrive, Close, Message, step, next, lent, left, used, checkOf, Given, moments, beforeSplit, All, Alike, Agree, Asked, ends, MadeOf}
-use Rattle.handshake_rules.specs.NumberClaims.{Numbers}
+use Rattle.handshake_rules.specs.NumberClaims.{GivenExactly, NumbersApart}
 use Rattle.handshake_rules.specs.MessageClaims.{NameReadBack, ChallengeReadBack, StatusReadBack, ReplyReadBack, AckReadBack, FrameSplits}
-use Rattle.handshake_rules.specs.SlotClaims.{OnlyByDigest, ConnectedByDigest, SentChallenge, SentReply, LastSent, Recorded, PeersApart, Lasting, SlotSteps, FreedWasTaken, StageTold, EndsTold}
+use Rattle.handshake_rules.specs.SlotClaims.{OnlyByDigest, ConnectedByDigest, SentChallenge, SentReply, LastSent, Recorded, PeersApart, Lasting, SlotSteps, FreedWasTaken, StageTold, EndsTold, EndExact}
 
 -- no test of a list holds
 abbrev pub NoneHolds : List Test → Type 0
@@ -154,7 +154,8 @@ pub record Promises : Type 0 where
   pub sent-reply : SentReply
   pub last-sent : LastSent
   pub refused-quietly : RefusedQuietly
-  pub numbers : Numbers
+  pub given-exactly : GivenExactly
+  pub numbers-apart : NumbersApart
   pub kept-whole : KeptWhole
   pub made-fresh : MadeFresh
   pub writes-little : WritesLittle
@@ -165,6 +166,7 @@ pub record Promises : Type 0 where
   pub freed-was-taken : FreedWasTaken
   pub stage-told : StageTold
   pub ends-told : EndsTold
+  pub end-exact : EndExact
   pub made-unrefused : MadeUnrefused
   pub started-unrefused : StartedUnrefused
   pub arrived-unrefused : ArrivedUnrefused

@@ -13,26 +13,21 @@ use Rattle.handshake_rules.specs.declared.endpoint.Stage.{Stage}
 use Rattle.handshake_rules.specs.declared.endpoint.Stage.the-variants.{Free, AwaitsName, AwaitsAlive, AwaitsReply, AwaitsStatus, AwaitsChallenge, AwaitsAck, Connected}
 use Rattle.handshake_rules.specs.declared.endpoint.Slot.{Slot}
 use Rattle.handshake_rules.specs.State.{Endpoint}
-use Rattle.handshake_rules.specs.declared.endpoint.Making.{Making}
-use Rattle.handshake_rules.specs.declared.endpoint.Making.the-variants.{Ready, NotMade}
-use Rattle.handshake_rules.specs.declared.endpoint.Answer.{Answer}
-use Rattle.handshake_rules.specs.declared.endpoint.Answer.the-variants.{Refused, Begun, Arrived, Closed, Answered}
-use Rattle.handshake_rules.specs.Refusals.{Test, _given-if_, checked}
+use Rattle.handshake_rules.specs.Refusals.{refusalNumber, Test, _given-if_, checked}
+use Rattle.handshake_rules.specs.Answers.{unrefused, makingNumber, numbersOf}
 use Rattle.handshake_rules.specs.Endpoint.{slotAt}
 use Rattle.handshake_rules.specs.Messages.{statusWord, replyDigest, ackDigest, ok, okSimultaneous, nok, notAllowed, alive, trueWord, falseWord}
 use Rattle.handshake_rules.specs.Cookie.{Cookies, checking, writing, fit, digestOf}
 use Rattle.handshake_rules.specs.Calls.{newTests, newOf, startTests, startOf, arriveTests, arriveOf, closeTests, closeOf, awaited, messageTests, messageOf}
 
-abbrev pub refusalOf : Answer → Check
-refusalOf (Refused r) = Refuse r
-refusalOf (Begun slot count) = Pass
-refusalOf (Arrived slot) = Pass
-refusalOf Closed = Pass
-refusalOf (Answered stage freed count) = Pass
+-- the number of what a list of tests comes to
+abbrev pub checkNumber : Check → ℕ
+checkNumber Pass = unrefused
+checkNumber (Refuse r) = refusalNumber r
 
-abbrev pub makingRefusal : Making → Check
-makingRefusal Ready = Pass
-makingRefusal (NotMade r) = Refuse r
+-- each refusal has its own number, and none has that of an answer (Numbers.numbers-apart)
+abbrev pub NumbersApart : Type 0
+NumbersApart = (x y : Check) → checkNumber x ≡ checkNumber y → x ≡ y
 
 abbrev pub isOneOf : List (List ℕ) → List ℕ → Bool
 isOneOf [] w = false
@@ -57,10 +52,11 @@ allTests k g s f c size =
     messageTests g s size (fit (slotAt g s .stage) (checking k) (writing k)) f (awaited g s f c)
     ++ ruleTests (slotAt g s .stage) (slotAt g s) (body f) (checking k)
 
-pub record Numbers : Type 0 where
-  pub making : (n : List ℕ) (f c : ℕ) → makingRefusal (newOf n f c .making) ≡ checked (newTests n f)
-  pub start : (g : Endpoint) (n : List ℕ) (size : ℕ) → refusalOf (startOf g n size .told .answer) ≡ checked (startTests g n size)
-  pub arrive : (g : Endpoint) → refusalOf (arriveOf g .answer) ≡ checked (arriveTests g)
-  pub close : (g : Endpoint) (s : ℕ) → refusalOf (closeOf g s .answer) ≡ checked (closeTests g s)
+-- (Numbers.given-exactly)
+pub record GivenExactly : Type 0 where
+  pub making : (n : List ℕ) (f c : ℕ) → makingNumber (newOf n f c .making) ≡ checkNumber (checked (newTests n f))
+  pub start : (g : Endpoint) (n : List ℕ) (size : ℕ) → numbersOf (startOf g n size .told .answer) .refusal ≡ checkNumber (checked (startTests g n size))
+  pub arrive : (g : Endpoint) → numbersOf (arriveOf g .answer) .refusal ≡ checkNumber (checked (arriveTests g))
+  pub close : (g : Endpoint) (s : ℕ) → numbersOf (closeOf g s .answer) .refusal ≡ checkNumber (checked (closeTests g s))
   pub message : (k : Cookies) (g : Endpoint) (s : ℕ) (f : List ℕ) (c size : ℕ)
-      → refusalOf (messageOf k g s f c size .told .answer) ≡ checked (allTests k g s f c size)
+      → numbersOf (messageOf k g s f c size .told .answer) .refusal ≡ checkNumber (checked (allTests k g s f c size))

@@ -6,6 +6,7 @@ use mathlib.Core.Logic.{_⊎_}
 use mathlib.Core.Bool.{Bool, true, false}
 use mathlib.Core.List.{List, [], _∷_, _++_}
 use lib.ListN.{length}
+use lib.Dec.{eqb}
 use Rattle.wire.specs.Frame.{body}
 use Rattle.names.specs.Held.{nameOf, nameBytes}
 use Rattle.names.specs.Full.{fullName}
@@ -19,7 +20,8 @@ use Rattle.handshake_rules.specs.declared.endpoint.Freed.the-variants.{A
 use Rattle.handshake_rules.specs.declared.endpoint.Answer.{Answer}
 use Rattle.handshake_rules.specs.declared.endpoint.Answer.the-variants.{Refused, Answered}
 use Rattle.handshake_rules.specs.Refusals.{free, messageFate}
-use Rattle.handshake_rules.specs.Endpoint.{freeSlot, kind, idle, slotAt}
+use Rattle.handshake_rules.specs.Endpoint.{freeSlot, stageNumber, kind, idle, slotAt}
+use Rattle.handshake_rules.specs.Answers.{endsSlot}
 use Rattle.handshake_rules.specs.Messages.{nameName, nameFlags, nameCreation, statusMessage, replyMessage, replyDigest, ackDigest}
 use Rattle.handshake_rules.specs.Cookie.{Cookies, checking, digestOf}
 use Rattle.handshake_rules.specs.Plans.{sent, moved, challengeOf}
@@ -260,3 +262,10 @@ abbrev pub EndsTold : Type 0
 EndsTold =
     (k : Cookies) (g : Endpoint) (s : ℕ) (f : List ℕ) (h : ℕ) (out : List ℕ) (j : ℕ) → (slotAt g j .stage ≡ Free → ⊥)
     → slotAt (next g (Message s f h out) k) j .stage ≡ Free → EndTold s j (step g (Message s f h out) k .told .answer)
+
+-- a message ends the slot named, which was taken, exactly if its answer says so (Freed.end-exact)
+abbrev pub EndExact : Type 0
+EndExact =
+    (n : List ℕ) (f c : ℕ) (g : Endpoint) → MadeOf n f c g → (l : List Asked) (k : Cookies) (s : ℕ) (m : List ℕ) (h : ℕ) (out : List ℕ)
+    → (slotAt (ends g l) s .stage ≡ Free → ⊥)
+    → endsSlot (step (ends g l) (Message s m h out) k .told .answer) ≡ eqb (stageNumber (slotAt (next (ends g l) (Message s m h out) k) s .stage)) 0
