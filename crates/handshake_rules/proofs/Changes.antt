@@ -1,7 +1,7 @@
 -- What a message comes to, and what a call makes of one slot, each case by its cause. Assumes nothing.
 use Prim.Native.Nat.{ℕ}
 use mathlib.Core.Path.{_≡_, refl, sym, _∙_, ap, subst}
-use mathlib.Core.Logic.{inl, inr, _⊎_, ⊎-elim}
+use mathlib.Core.Logic.{⊎-elim}
 use mathlib.Core.Bool.{Bool, true, false}
 use mathlib.Core.List.{List, []}
 use native.Mathlib.Omega.{arith}
@@ -18,7 +18,7 @@ use Rattle.handshake_rules.specs.declared.endpoint.Freed.the-variants.{N
 use Rattle.handshake_rules.specs.Refusals.{Test, checked, unless}
 use Rattle.handshake_rules.specs.Endpoint.{freeSlot, slotAt, put, freed, freeOther}
 use Rattle.handshake_rules.specs.Cookie.{Cookies, checking, writing, fit, digestOf}
-use Rattle.handshake_rules.specs.Plans.{Done, Act, Outcome, stop, go, Plan, sure, proven, fails, judged, settled, render, spared, refused, answered, finished, concluded}
+use Rattle.handshake_rules.specs.Plans.{Done, Act, Outcome, stop, go, Plan, sure, proven, fails, judged, settled, render, refused, answered, finished, concluded}
 use Rattle.handshake_rules.specs.Calls.{opened, startTests, arriveTests, closeTests, begun, arrived, silent, kept, startOf, arriveOf, closeOf, awaited, messageTests, plan, messageOf}
 use Rattle.handshake_rules.specs.Runs.{Call, Start, Arrive, Close, Message, step, next}
 use Rattle.handshake_rules.specs.Claims.{NoneHolds}

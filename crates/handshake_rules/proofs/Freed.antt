@@ -16,15 +16,14 @@ use Rattle.handshake_rules.specs.declared.endpoint.Slot.{Slot}
 use Rattle.handshake_rules.specs.State.{Endpoint}
 use Rattle.handshake_rules.specs.declared.endpoint.Freed.{Freed}
 use Rattle.handshake_rules.specs.declared.endpoint.Freed.the-variants.{Nothing, At}
-use Rattle.handshake_rules.specs.declared.endpoint.Answer.{Answer}
 use Rattle.handshake_rules.specs.declared.endpoint.Answer.the-variants.{Refused, Answered}
 use Rattle.handshake_rules.specs.Refusals.{Fate, keep, free, messageFate, isFree}
 use Rattle.handshake_rules.specs.Answers.{endsSlot}
 use Rattle.handshake_rules.specs.Endpoint.{freeSlot, stageNumber, slotAt, put, freed, freeOther}
-use Rattle.handshake_rules.specs.Cookie.{Cookies, checking, writing, fit}
-use Rattle.handshake_rules.specs.Plans.{Done, Act, stop, go, Plan, sure, proven, settled, spared, refused}
-use Rattle.handshake_rules.specs.Calls.{expected, awaited, earlyTests, messageOf}
-use Rattle.handshake_rules.specs.Runs.{Message, step, ends}
+use Rattle.handshake_rules.specs.Cookie.{Cookies, checking}
+use Rattle.handshake_rules.specs.Plans.{Done, Act, stop, go, Plan, sure, proven, spared}
+use Rattle.handshake_rules.specs.Calls.{awaited, messageOf}
+use Rattle.handshake_rules.specs.Runs.{step, ends}
 use Rattle.handshake_rules.specs.SlotClaims.{kindOf, WasTaken, FreedWasTaken, StageTold, EndTold, as-named, as-refused, as-other, EndsTold, EndExact}
 use Rattle.handshake_rules.proofs.SlotLaws.{put-at, put-same, put-other, past-last}
 use Rattle.handshake_rules.proofs.Kept.{kept-whole, alike-other}

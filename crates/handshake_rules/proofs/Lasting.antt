@@ -1,7 +1,7 @@
 -- A connected slot stays as it is, unless it is closed, or a right digest is shown on another slot of the same peer. Assumes nothing.
 use Prim.Native.Nat.{ℕ, _<_}
 use mathlib.Core.Path.{_≡_, refl, sym, _∙_, ap, subst}
-use mathlib.Core.Logic.{_⊎_, inl, inr, ⊎-map, ⊎-elim}
+use mathlib.Core.Logic.{_⊎_, inl, ⊎-map, ⊎-elim}
 use mathlib.Core.Bool.{Bool, true, false, _&&_}
 use mathlib.Core.List.{List, []}
 use native.Mathlib.Omega.{arith}

@@ -2,7 +2,7 @@
 use Prim.Native.Nat.{ℕ}
 use mathlib.Core.Path.{_≡_, refl, sym, _∙_, ap, subst}
 use mathlib.Core.Bool.{Bool, true, false, true≢false, cond, not, _||_}
-use mathlib.Core.List.{List, [], _∷_, _++_}
+use mathlib.Core.List.{List, [], _∷_}
 use lib.ListN.{getD}
 use Rattle.wire.specs.Run.{sameBytes}
 use Rattle.wire.specs.Frame.{body}
@@ -23,11 +23,11 @@ use Rattle.handshake_rules.specs.Endpoint.{fresh, freed, slotAt}
 use Rattle.handshake_rules.specs.Messages.{nameName, nameFlags, nameCreation, statusWord, replyDigest, ackDigest, ok, okSimultaneous, nok, notAllowed, alive, trueWord, falseWord}
 use Rattle.handshake_rules.specs.Forms.{formTests}
 use Rattle.handshake_rules.specs.Cookie.{Cookies, checking, writing, fit, digestOf}
-use Rattle.handshake_rules.specs.Plans.{Done, Act, Outcome, stop, go, sure, fails, judged, settled, finished, concluded}
+use Rattle.handshake_rules.specs.Plans.{Act, Outcome, stop, go, sure, fails, judged, settled, finished, concluded}
 use Rattle.handshake_rules.specs.Accepting.{greeting, onName}
 use Rattle.handshake_rules.specs.Connecting.{reaction, onStatus}
 use Rattle.handshake_rules.specs.Calls.{newTests, notMade, newOf, startTests, begun, silent, kept, startOf, arriveTests, arrived, arriveOf, closeTests, closeOf, expected, awaited, messageTests, plan, messageOf}
-use Rattle.handshake_rules.specs.Answers.{unrefused, makingNumber, numbersOf}
+use Rattle.handshake_rules.specs.Answers.{makingNumber, numbersOf}
 use Rattle.handshake_rules.specs.NumberClaims.{checkNumber, NumbersApart, isOneOf, ruleTests, allTests, GivenExactly}
 use Rattle.handshake_rules.specs.Claims.{NoneHolds}
 use Rattle.handshake_rules.proofs.CheckLaws.{andThen, checked-append, none-holds}

@@ -1,5 +1,5 @@
 -- Every plan, walked once: what is checked, what is connected, and how much is written. The other files use its parts. Assumes nothing.
-use Prim.Native.Nat.{ℕ, _+_, _≤_}
+use Prim.Native.Nat.{ℕ, _≤_}
 use mathlib.Core.Path.{_≡_, refl}
 use mathlib.Core.Bool.{Bool, true, false, cond}
 use mathlib.Core.List.{List, [], _++_}
@@ -15,7 +15,7 @@ use Rattle.handshake_rules.specs.declared.endpoint.Slot.{Slot}
 use Rattle.handshake_rules.specs.State.{Endpoint}
 use Rattle.handshake_rules.specs.declared.accepting.Greeting.{Greeting}
 use Rattle.handshake_rules.specs.declared.accepting.Greeting.the-variants.{NotAllowed, Nok, OkSimultaneous, Alive, Ok}
-use Rattle.handshake_rules.specs.Refusals.{keep, free, messageFate, checked}
+use Rattle.handshake_rules.specs.Refusals.{keep, free, messageFate}
 use Rattle.handshake_rules.specs.Endpoint.{slotAt, isA, connected, put, freed, freeOther}
 use Rattle.handshake_rules.specs.Messages.{statusMessage, nameFlags, nameCreation, nameName, statusWord, ok, okSimultaneous, nok, notAllowed, alive, trueWord, falseWord}
 use Rattle.handshake_rules.specs.Cookie.{Cookies, checking, writing, fit, digestOf}

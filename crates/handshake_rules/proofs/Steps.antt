@@ -1,9 +1,8 @@
 -- What one call makes of one slot (specs/SlotClaims). Assumes nothing.
 use Prim.Native.Nat.{ℕ}
-use mathlib.Core.Path.{_≡_, refl, subst, sym, _∙_}
+use mathlib.Core.Path.{_≡_, refl, subst, sym}
 use mathlib.Core.Logic.{inl, inr}
 use mathlib.Core.List.{List}
-use lib.ListN.{length}
 use Rattle.wire.specs.Run.{sameBytes}
 use Rattle.wire.specs.Frame.{body}
 use Rattle.handshake_rules.specs.declared.endpoint.Stage.{Stage}
@@ -24,7 +23,7 @@ use Rattle.handshake_rules.specs.Calls.{expected, awaited}
 use Rattle.handshake_rules.specs.Runs.{Call, Message}
 use Rattle.handshake_rules.specs.SlotClaims.{SlotStep, same, is-freed, by-start, by-arrival, by-name, by-true, by-status, by-challenge, by-digest, SlotSteps}
 use Rattle.handshake_rules.proofs.PlanLaws.{either}
-use Rattle.handshake_rules.proofs.Changes.{Acted, OnAct, act-of, Change, unchanged, emptied, begins, comes-in, moves, changes}
+use Rattle.handshake_rules.proofs.Changes.{OnAct, act-of, Change, unchanged, emptied, begins, comes-in, moves, changes}
 
 -- what a rule puts into the slot of the message
 module _ (g : Endpoint) (s : ℕ) (f : List ℕ) (h : ℕ) (out : List ℕ) where
