@@ -1,12 +1,12 @@
 use crate::endpoint::Endpoint;
+use handshake_messages::flags::good_flags;
 use handshake_rules::endpoint::Answer;
 use handshake_rules::endpoint::Making;
 use handshake_rules::endpoint::Slot;
 use handshake_rules::refusal::Refusal;
-use handshake_messages::flags::good_flags;
-use names::Name;
 use handshake_state::lent::arrive_in;
 use handshake_state::lent::close_in;
+use names::Name;
 ghost use mathlib.Core.Path.{_≡_};
 ghost use mathlib.Core.Bool.{_&&_};
 ghost use Prim.Native.Nat.{_+_, _*_, _≤_, _<_};

@@ -1,11 +1,3 @@
-use handshake_rules::accepting::Greeting;
-use handshake_rules::endpoint::Answer;
-use handshake_rules::endpoint::Freed;
-use handshake_rules::endpoint::Slot;
-use handshake_rules::endpoint::Sought;
-use handshake_rules::endpoint::Stage;
-use handshake_rules::refusal::Check;
-use handshake_rules::refusal::Refusal;
 use handshake_messages::cookie::digest;
 use handshake_messages::cookie::is_digest;
 use handshake_messages::recv::check_exact;
@@ -14,7 +6,14 @@ use handshake_messages::recv::check_status;
 use handshake_messages::send::send_challenge;
 use handshake_messages::send::send_challenge_ack;
 use handshake_messages::send::send_status;
-use names::Name;
+use handshake_rules::accepting::Greeting;
+use handshake_rules::endpoint::Answer;
+use handshake_rules::endpoint::Freed;
+use handshake_rules::endpoint::Slot;
+use handshake_rules::endpoint::Sought;
+use handshake_rules::endpoint::Stage;
+use handshake_rules::refusal::Check;
+use handshake_rules::refusal::Refusal;
 use handshake_state::endpoint::answer;
 use handshake_state::endpoint::free_slot;
 use handshake_state::endpoint::refuse;
@@ -26,6 +25,7 @@ use handshake_state::lent::own_creation;
 use handshake_state::lent::own_flags;
 use handshake_state::lent::own_name;
 use handshake_state::status::say;
+use names::Name;
 ghost use Rattle.handshake_state.specs.Lent.{endpointOf, toldIn};
 ghost use mathlib.Core.Path.{_≡_};
 ghost use Prim.Native.Nat.{ℕ, _+_, _≤_, _<_};
@@ -134,7 +134,15 @@ fn on_name(
         Greeting::OkSimultaneous(mine) => {
             let s = heard(Stage::AwaitsReply, name, flags, creation, challenge);
             without(state, mine);
-            welcome(state, at, s, Freed::At(mine), b"ok_simultaneous", challenge, out)
+            welcome(
+                state,
+                at,
+                s,
+                Freed::At(mine),
+                b"ok_simultaneous",
+                challenge,
+                out,
+            )
         }
         Greeting::Alive => {
             let s = heard(Stage::AwaitsAlive, name, flags, creation, 0);
@@ -197,7 +205,13 @@ fn on_alive(state: &mut [u8], at: usize, word: &[u8], challenge: u32, out: &mut 
 }
 
 // Awaits alive answer.
-pub fn recv_alive(state: &mut [u8], at: usize, body: &[u8], challenge: u32, out: &mut [u8]) -> Answer
+pub fn recv_alive(
+    state: &mut [u8],
+    at: usize,
+    body: &[u8],
+    challenge: u32,
+    out: &mut [u8],
+) -> Answer
     requires { ⌜ (at < 32) × (1 ≤ length (now body)) × (300 ≤ length (now out)) × (length (now state) ≡ 9004) ⌝ }
     ensures { λ r. ⌜ ((k : List ℕ) → toldIn r (now (state .exit)) ≡ plans.concluded k k (endpointOf (now (state .entry))) at (plans.stagePlan (spec.expectAlive (endpointOf (now (state .entry))) (slotAt (endpointOf (now (state .entry))) at) challenge (now (body .entry)))) .told) ⌝ }
     ensures { λ _. ⌜ ((k : List ℕ) → now (out .exit) ≡ written (plans.concluded k k (endpointOf (now (state .entry))) at (plans.stagePlan (spec.expectAlive (endpointOf (now (state .entry))) (slotAt (endpointOf (now (state .entry))) at) challenge (now (body .entry)))) .bytes) (now (out .entry))) ⌝ }
@@ -234,7 +248,13 @@ fn connect(state: &mut [u8], at: usize, s: Slot, count: usize) -> Answer
 }
 
 // A reply of the right length: its digest must be that of the slot's own challenge.
-fn on_challenge_reply(state: &mut [u8], at: usize, body: &[u8], cookie: &[u8], out: &mut [u8]) -> Answer
+fn on_challenge_reply(
+    state: &mut [u8],
+    at: usize,
+    body: &[u8],
+    cookie: &[u8],
+    out: &mut [u8],
+) -> Answer
     requires { ⌜ (at < 32) × (length (now body) ≡ 21) × (length (now cookie) ≤ 255) × (300 ≤ length (now out)) × (length (now state) ≡ 9004) ⌝ }
     ensures { λ r. ⌜ toldIn r (now (state .exit)) ≡ plans.concluded (now (cookie .entry)) (now (cookie .entry)) (endpointOf (now (state .entry))) at (spec.expectReply (endpointOf (now (state .entry))) (slotAt (endpointOf (now (state .entry))) at) (now (body .entry)) .rule) .told ⌝ }
     ensures { λ _. ⌜ now (out .exit) ≡ written (plans.concluded (now (cookie .entry)) (now (cookie .entry)) (endpointOf (now (state .entry))) at (spec.expectReply (endpointOf (now (state .entry))) (slotAt (endpointOf (now (state .entry))) at) (now (body .entry)) .rule) .bytes) (now (out .entry)) ⌝ }

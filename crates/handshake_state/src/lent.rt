@@ -128,7 +128,13 @@ pub fn put_in(state: &mut [u8], at: usize, slot: Slot)
     let name = slot.name;
     let b = name.array();
     let l = name.size();
-    let h = numbers(slot.flags, slot.creation, slot.challenge, stage.number(), l as u8);
+    let h = numbers(
+        slot.flags,
+        slot.creation,
+        slot.challenge,
+        stage.number(),
+        l as u8,
+    );
     let o = 268 + at * 273;
     wire::put_bytes(state, o, &h);
     wire::put_bytes(state, o + 18, &b);

@@ -1,8 +1,8 @@
 use crate::endpoint::answer;
+use handshake_messages::send::send_status;
 use handshake_rules::endpoint::Answer;
 use handshake_rules::endpoint::Freed;
 use handshake_rules::endpoint::Slot;
-use handshake_messages::send::send_status;
 ghost use Rattle.handshake_state.specs.Lent.{endpointOf, toldIn};
 ghost use mathlib.Core.Path.{_≡_};
 ghost use Prim.Native.Nat.{ℕ, _+_, _≤_, _<_};

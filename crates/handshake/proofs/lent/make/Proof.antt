@@ -19,7 +19,7 @@ is-full-name-requires c κs = search needs
 
 returns : tie.Need-returns
 unfolding newOf
-returns c = 
+returns c =
     let e : fullName (c .before .before .before .args .name .now) ≡ false = sym (c .before .is-full-name .ensures) ∙ not-true (c .before .is-full-name .result) (c .if1 .taken) in
     rw e (refl, refl)
 
@@ -28,7 +28,7 @@ good-flags-requires c κs = search needs
 
 returns-2 : tie.Need-returns-2
 unfolding newOf
-returns-2 c = 
+returns-2 c =
     let e : fullName (c .before .before .before .before .before .args .name .now) ≡ true = sym (c .before .before .before .is-full-name .ensures) ∙ not-false (c .before .before .before .is-full-name .result) (c .before .before .if1 .left) in
     let f : goodFlags (c .before .before .before .before .before .args .flags) ≡ false = sym (c .before .good-flags .ensures) ∙ not-true (c .before .good-flags .result) (c .if2 .taken) in
     rw (e, f) (refl, refl)
@@ -38,7 +38,7 @@ put-own-requires c κs = (full-short (c .before .before .before .before .before 
 
 returns-3 : tie.Need-returns-3
 unfolding newOf endpointOf
-returns-3 c = 
+returns-3 c =
     let a = c .before .before .before .before .before .before .before .before .args in
     let e : fullName (c .before .before .before .before .before .before .before .before .args .name .now) ≡ true = sym (c .before .before .before .before .before .before .is-full-name .ensures) ∙ not-false (c .before .before .before .before .before .before .is-full-name .result) (c .before .before .before .before .before .if1 .left) in
     let f : goodFlags (c .before .before .before .before .before .before .before .before .args .flags) ≡ true = sym (c .before .before .before .before .good-flags .ensures) ∙ not-false (c .before .before .before .before .good-flags .result) (c .before .before .before .if2 .left) in

@@ -62,7 +62,7 @@ same-length c = search needs
 
 returns : tie.Need-returns
 unfolding nameOf
-returns c = 
+returns c =
     let a = c .before .before .before .before .before .before .before .before .before .before .before .before .before .before .before .before .before .before .before .before .before .before .before .before .before .before .args in
     let st = a .state .now in
     let n = nameOf (a .name .now) in

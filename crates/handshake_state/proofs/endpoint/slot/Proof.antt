@@ -14,7 +14,7 @@ free-slot-requires : tie.Need-free-slot-requires
 free-slot-requires c κs = search needs
 
 returns : tie.Need-returns
-returns c = 
+returns c =
     let b = c .before .before .before .args .state .now in
     c .free-slot .ensures ∙ sym (past-last (endpointOf b) (c .before .before .before .args .at) (omega (arith, here-long b, c .before .if1 .taken)))
 
@@ -26,7 +26,7 @@ slot-of-requires c κs = search needs
 
 returns-2 : tie.Need-returns-2
 unfolding endpointOf
-returns-2 c = 
+returns-2 c =
     let a = c .before .before .before .before .args in
     c .slot-of .ensures ∙ ap (λ (x : List ℕ). slotOf (storedBy x)) (c .before .record-of .ensures .0)
     ∙ ap slotOf (sym (slots-at 32 268 (a .at) (268 + a .at * 273) (a .state .now) (storedOf freeSlot) (search needs) refl))

@@ -29,7 +29,7 @@ same-bytes-requires c κs = search needs
 
 returns-2 : tie.Need-returns-2
 unfolding storedBy nameBytes part
-returns-2 c = 
+returns-2 c =
     let b = c .before .before .before .before .before .before .args .bytes .now in
     let k = c .before .before .get8 .result in
     let p : c .before .get-part .result .now ≡ take k (part 18 255 b) = c .before .get-part .ensures ∙ take-within k 255 (drop 18 b) (search needs) in

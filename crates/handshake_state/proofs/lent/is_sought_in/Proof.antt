@@ -44,34 +44,34 @@ is-peer-in-requires-4 c κs = search needs
 
 returns : tie.Need-returns
 unfolding slotOf
-returns c = 
+returns c =
     let a = c .before .before .before .before .before .args in
     sym (and-true (eqb (c .before .before .kind-in .result) 0)) ∙ ap (λ (k : ℕ). eqb k 0 && _) (c .before .before .kind-in .ensures) ∙ ap (λ (w : Sought). soughtIn w (a .name .now) (storedBy (a .bytes .now))) (sym (c .enum-told .given .1))
 
 returns-2 : tie.Need-returns-2
 unfolding slotOf
-returns-2 c = 
+returns-2 c =
     let a = c .before .before .before .before .before .before .args in
     c .is-peer-in .ensures ∙ ap (λ (k : ℕ). eqb k 1 && sameBytes (nameBytes (storedBy (a .bytes .now) .name)) (a .name .now)) (c .before .before .before .kind-in .ensures)
     ∙ ap (λ (w : Sought). soughtIn w (a .name .now) (storedBy (a .bytes .now))) (sym (c .before .enum-told2 .given .1))
 
 returns-3 : tie.Need-returns-3
 unfolding slotOf
-returns-3 c = 
+returns-3 c =
     let a = c .before .before .before .before .before .before .args in
     c .is-peer-in2 .ensures ∙ ap (λ (k : ℕ). eqb k 2 && sameBytes (nameBytes (storedBy (a .bytes .now) .name)) (a .name .now)) (c .before .before .before .kind-in .ensures)
     ∙ ap (λ (w : Sought). soughtIn w (a .name .now) (storedBy (a .bytes .now))) (sym (c .before .enum-told3 .given .1))
 
 returns-4 : tie.Need-returns-4
 unfolding slotOf
-returns-4 c = 
+returns-4 c =
     let a = c .before .before .before .before .before .before .args in
     c .is-peer-in3 .ensures ∙ ap (λ (k : ℕ). eqb k 3 && sameBytes (nameBytes (storedBy (a .bytes .now) .name)) (a .name .now)) (c .before .before .before .kind-in .ensures)
     ∙ ap (λ (w : Sought). soughtIn w (a .name .now) (storedBy (a .bytes .now))) (sym (c .before .enum-told4 .given .1))
 
 returns-5 : tie.Need-returns-5
 unfolding slotOf
-returns-5 c = 
+returns-5 c =
     let a = c .before .before .before .before .before .before .args in
     c .is-peer-in4 .ensures ∙ ap (λ (k : ℕ). not (eqb k 0) && sameBytes (nameBytes (storedBy (a .bytes .now) .name)) (a .name .now)) (c .before .before .before .kind-in .ensures)
     ∙ ap (λ (w : Sought). soughtIn w (a .name .now) (storedBy (a .bytes .now))) (sym (c .before .enum-told5 .given .1))

@@ -38,7 +38,7 @@ held-requires c κs = ap length (c .before .get-part .ensures) ∙ part-length 1
 
 returns : tie.Need-returns
 unfolding slotOf storedBy
-returns c = 
+returns c =
     let s : c .before .before .before .before .before .before .stage-of .result ≡ stageOf (beAt 1 16 (c .before .before .before .before .before .before .before .before .before .args .bytes .now)) = c .before .before .before .before .before .before .stage-of .ensures ∙ ap stageOf (c .before .before .before .before .before .before .before .get8 .ensures) in
     let n : c .held .result ≡ heldOf (part 18 255 (c .before .before .before .before .before .before .before .before .before .args .bytes .now)) (beAt 1 17 (c .before .before .before .before .before .before .before .before .before .args .bytes .now)) =
     c .held .ensures ∙ ap₂ (λ (x : List ℕ) (n : ℕ). heldOf x n) (c .before .before .get-part .ensures) (c .before .get82 .ensures) in
