@@ -1,162 +1,99 @@
 -- Laws of a registry that lies in bytes: a registration is read where it lies, and overwriting it changes it alone. Assumes nothing.
-use Prim.Native.Nat.{ℕ, zero, suc, _+_, _-_, _*_, _^_, _≤_, _<_}
+use Prim.Native.Nat.{ℕ, zero, suc, _+_, _*_, _^_, _≤_, _<_}
 use mathlib.Core.Path.{_≡_, refl, sym, _∙_, ap, ap₂}
+use mathlib.Core.Bool.{Bool, true, false, _&&_, not}
 use mathlib.Core.List.{List, [], _∷_, _++_, append-nil, append-assoc}
 use native.Mathlib.Omega.{arith}
+use borrow.Author.Tests.{eq-eqb, ne-eqb}
 use lib.ListN.{length, length-append, getD, set, take, drop, replicate}
-use lib.Seq.{length-take-le}
-use Rattle.wire.specs.Run.{part}
+use lib.Seq.{length-take-le, take-all}
+use Rattle.wire.specs.Run.{part, sameBytes}
 use Rattle.wire.specs.Number.{be, num, beAt}
 use Rattle.wire.specs.Output.{overwrite}
-use Rattle.wire.specs.Layout.{number, Value, int, encode, decode, intOf, Fits}
-use Rattle.wire.proofs.RunLaws.{part-behind}
+use Rattle.wire.specs.Table.{table}
+use Rattle.wire.specs.Lookup.{firstAt}
+use Rattle.wire.specs.Layout.{Value, int, encode, decode, intOf, Fits}
 use Rattle.wire.proofs.NumberLaws.{be-length}
 use Rattle.wire.proofs.LayoutLaws.{layout-back, beAt-behind}
-use Rattle.epmd_rules.specs.declared.registration.Registration.{Registration}
+use Rattle.wire.proofs.LookupLaws.{first-skip, first-hit, first-end}
+use Rattle.wire.proofs.OutputLaws.{overwrite-join}
+use Rattle.wire.proofs.TableLaws.{take-within, part-before, table-count, table-at, table-after, table-set, table-zeros}
+use Rattle.wire.proofs.RunLaws.{part-length, same-length-ne}
+use Rattle.names.specs.Held.{nameOf, nameBytes}
 use Rattle.epmd_rules.specs.State.{Registry}
-use Rattle.epmd_rules.specs.Registration.{free, extraOf}
-use Rattle.names.specs.Held.{nameOf}
-use Rattle.epmd_state.specs.Lent.{places, headSize, entrySize, size, headL, tailL, entryL, tailValues, entryValues, entryBytes, entryFrom, entryBy, entriesIn, registryOf, placed, headed}
+use Rattle.epmd_rules.specs.declared.registration.Registration.{Registration}
+use Rattle.epmd_rules.specs.Registration.{free, isFree, hasName, extraOf, extraBytes}
+use Rattle.epmd_rules.specs.Registry.{entryAt}
+use Rattle.epmd_state.specs.Lent.{headL, tailL, entryL, places, headSize, entrySize, size, tailValues, entryValues, entryBytes, entryFrom, entryBy, registryOf, placed, headed}
 
--- ---- parts of what was overwritten
-
-front : (m a : ℕ) (b x : List ℕ) → m ≤ a → a ≤ length b → take m (take a b ++ x) ≡ take m b
-front zero a b x h k = refl
-front (suc m) zero b x h k = absurd (omega arith)
-front (suc m) (suc a) [] x h k = absurd (omega arith)
-front (suc m) (suc a) (y ∷ b) x h k = ap (λ (r : List ℕ). y ∷ r) (front m a b x (omega arith) (omega arith))
-
-before : (o m a : ℕ) (b x : List ℕ) → o + m ≤ a → a ≤ length b → take m (drop o (take a b ++ x)) ≡ take m (drop o b)
-before zero m a b x h k = front m a b x (omega arith) k
-before (suc o) m zero b x h k = absurd (omega arith)
-before (suc o) m (suc a) [] x h k = absurd (omega arith)
-before (suc o) m (suc a) (y ∷ b) x h k = before o m a b x (omega arith) (omega arith)
-
-over : (o k : ℕ) (r b : List ℕ) → k ≡ length r → k ≤ o → k ≤ length b → drop o (r ++ drop k b) ≡ drop o b
-over o zero [] b e h l = refl
-over o (suc k) [] b e h l = absurd (omega (arith, e))
-over o zero (x ∷ r) b e h l = absurd (omega (arith, e))
-over zero (suc k) (x ∷ r) b e h l = absurd (omega arith)
-over (suc o) (suc k) (x ∷ r) [] e h l = absurd (omega arith)
-over (suc o) (suc k) (x ∷ r) (y ∷ b) e h l = over o k r b (omega (arith, e)) (omega arith) (omega arith)
-
-after : (o a k : ℕ) (r b : List ℕ) → k ≡ a + length r → k ≤ o → k ≤ length b → drop o (take a b ++ (r ++ drop k b)) ≡ drop o b
-after o zero k r b e h l = over o k r b (omega (arith, e)) h l
-after zero (suc a) k r b e h l = absurd (omega (arith, e))
-after (suc o) (suc a) zero r b e h l = absurd (omega (arith, e))
-after (suc o) (suc a) (suc k) r [] e h l = absurd (omega arith)
-after (suc o) (suc a) (suc k) r (y ∷ b) e h l = after o a k r b (omega (arith, e)) (omega arith) (omega arith)
-
-pub part-before : (o m a : ℕ) (b r : List ℕ) → o + m ≤ a → a ≤ length b → part o m (overwrite b a r) ≡ part o m b
-unfolding part overwrite
-part-before o m a b r h k = before o m a b (r ++ drop (a + length r) b) h k
-
-pub part-after : (o m a : ℕ) (b r : List ℕ) → a + length r ≤ o → a + length r ≤ length b → part o m (overwrite b a r) ≡ part o m b
-unfolding part overwrite
-part-after o m a b r h k = ap (take m) (after o a (a + length r) r b refl h k)
-
-pub part-there : (n a : ℕ) (b r : List ℕ) → length r ≡ n → a ≤ length b → part a n (overwrite b a r) ≡ r
-unfolding overwrite
-part-there n a b r e k = part-behind (take a b) r (drop (a + length r) b) a n (length-take-le a b k) e
-
--- ---- the registrations
-
-pub entries-count : (n o : ℕ) (b : List ℕ) → length (entriesIn n o b) ≡ n
-unfolding entriesIn
-entries-count zero o b = refl
-entries-count (suc n) o b = ap suc (entries-count n (o + entrySize) b)
-
-pub entries-at : (n o i a : ℕ) (b : List ℕ) (d : Registration) → i < n → a ≡ o + i * entrySize → getD (entriesIn n o b) i d ≡ entryBy (part a entrySize b)
-unfolding entriesIn
-entries-at zero o i a b d h e = absurd (omega arith)
-entries-at (suc n) o zero a b d h e = ap (λ (k : ℕ). entryBy (part k entrySize b)) (omega (arith, e))
-entries-at (suc n) o (suc i) a b d h e = entries-at n (o + entrySize) i a b d (omega arith) (omega (arith, e))
-
-entries-after : (n o a : ℕ) (b r : List ℕ) → a + length r ≤ o → a + length r ≤ length b → entriesIn n o (overwrite b a r) ≡ entriesIn n o b
-unfolding entriesIn
-entries-after zero o a b r h k = refl
-entries-after (suc n) o a b r h k =
-    ap₂ (λ (x : Registration) (l : List Registration). x ∷ l) (ap entryBy (part-after o entrySize a b r h k)) (entries-after n (o + entrySize) a b r (omega arith) k)
-
-entries-set : (n o i a : ℕ) (b r : List ℕ) → i < n → a ≡ o + i * entrySize → length r ≡ entrySize → o + n * entrySize ≤ length b
-    → entriesIn n o (overwrite b a r) ≡ set (entriesIn n o b) i (entryBy r)
-unfolding entriesIn
-entries-set zero o i a b r h e l k = absurd (omega arith)
-entries-set (suc n) o zero a b r h e l k =
-    let same : o ≡ a = omega (arith, e) in
-    ap₂ (λ (x : Registration) (s : List Registration). x ∷ s)
-    (ap entryBy (ap (λ (j : ℕ). part j entrySize (overwrite b a r)) same ∙ part-there entrySize a b r l (omega (arith, e))))
-    (entries-after n (o + entrySize) a b r (omega (arith, e, l)) (omega (arith, e, l)))
-entries-set (suc n) o (suc i) a b r h e l k =
-    ap₂ (λ (x : Registration) (s : List Registration). x ∷ s)
-    (ap entryBy (part-before o entrySize a b r (omega (arith, e)) (omega (arith, e))))
-    (entries-set n (o + entrySize) i a b r (omega arith) (omega (arith, e)) l (omega arith))
-
+abbrev entries : List ℕ → List Registration
+entries b = table entryBy entrySize places headSize b
 
 pub here-long : (b : List ℕ) → length (registryOf b .registrations) ≡ places
 unfolding registryOf
-here-long b = entries-count places headSize b
+here-long b = table-count entryBy entrySize places headSize b
+
+-- a registration is read where it lies
+pub entry-here : (b : List ℕ) (i : ℕ) → i < places → entryBy (part (headSize + i * entrySize) entrySize b) ≡ entryAt (registryOf b) i
+unfolding registryOf entryAt
+entry-here b i h = sym (table-at entryBy entrySize places headSize i (headSize + i * entrySize) b free h refl)
 
 -- what is written of a registration is read back
-pub entry-back : (p : Registration) → Fits entryL (entryValues p) → entryBy (entryBytes p) ≡ p
+entry-back : (p : Registration) → Fits entryL (entryValues p) → entryBy (entryBytes p) ≡ p
 unfolding entryBy
 entry-back p h = ap (λ (c : List ℕ). entryFrom (decode entryL c)) (sym (append-nil (entryBytes p))) ∙ ap entryFrom (layout-back entryL (entryValues p) [] h .fields)
 
--- THE LAW: a registration overwritten is that one set
-pub put-here : (b : List ℕ) (i a : ℕ) (p : Registration) → i < places → a ≡ headSize + i * entrySize → length b ≡ size → Fits entryL (entryValues p) → length (entryBytes p) ≡ entrySize
-    → registryOf (overwrite b a (entryBytes p)) ≡ placed (registryOf b) i p
+-- THE LAW: a record overwritten is that registration set
+set-here : (b r : List ℕ) (i : ℕ) (p : Registration) → i < places → length b ≡ size → length r ≡ entrySize → entryBy r ≡ p
+    → registryOf (overwrite b (headSize + i * entrySize) r) ≡ placed (registryOf b) i p
 unfolding registryOf beAt
-put-here b i a p h e l fits long =
-    let c = overwrite b a (entryBytes p) in
-    let p0 : part 0 2 c ≡ part 0 2 b = part-before 0 2 a b (entryBytes p) (omega (arith, e)) (omega (arith, e, l)) in
-    let p1 : part 2 4 c ≡ part 2 4 b = part-before 2 4 a b (entryBytes p) (omega (arith, e)) (omega (arith, e, l)) in
-    let q : entriesIn places headSize c ≡ set (entriesIn places headSize b) i p =
-    entries-set places headSize i a b (entryBytes p) h e long (omega (arith, l)) ∙ ap (set (entriesIn places headSize b) i) (entry-back p fits) in
+set-here b r i p h l long e =
+    let a : ℕ = headSize + i * entrySize in
+    let c = overwrite b a r in
+    let p0 : part 0 2 c ≡ part 0 2 b = part-before 0 2 a b r (omega arith) (omega (arith, l)) in
+    let p1 : part 2 4 c ≡ part 2 4 b = part-before 2 4 a b r (omega arith) (omega (arith, l)) in
+    let q : entries c ≡ set (entries b) i p = table-set entryBy entrySize places headSize i a b r h refl long (omega (arith, l)) ∙ ap (set (entries b) i) e in
     λ j. record { port = num (p0 j); next = num (p1 j); registrations = q j }
 
-port-kept : (b : List ℕ) (n : ℕ) → length b ≡ size → beAt 2 0 (overwrite b 2 (be 4 n)) ≡ beAt 2 0 b
-unfolding beAt
-port-kept b n l = ap num (part-before 0 2 2 b (be 4 n) (omega arith) (omega (arith, l)))
-
-next-there : (b : List ℕ) (n : ℕ) → length b ≡ size → n < 256 ^ 4 → beAt 4 2 (overwrite b 2 (be 4 n)) ≡ n
-unfolding overwrite
-next-there b n l h = beAt-behind (take 2 b) (drop (2 + length (be 4 n)) b) 2 4 n (length-take-le 2 b (omega (arith, l))) h
-
--- the next creation overwritten
-pub next-here : (b : List ℕ) (n : ℕ) → length b ≡ size → n < 256 ^ 4
-    → registryOf (overwrite b 2 (be 4 n)) ≡ record { port = registryOf b .port; next = n; registrations = registryOf b .registrations }
-unfolding registryOf
-next-here b n l h =
-    let p0 : beAt 2 0 (overwrite b 2 (be 4 n)) ≡ beAt 2 0 b = port-kept b n l in
-    let p1 : beAt 4 2 (overwrite b 2 (be 4 n)) ≡ n = next-there b n l h in
-    let q : entriesIn places headSize (overwrite b 2 (be 4 n)) ≡ entriesIn places headSize b = entries-after places headSize 2 b (be 4 n) (omega (arith, be-length 4 n)) (omega (arith, l, be-length 4 n)) in
-    λ j. record { port = p0 j; next = p1 j; registrations = q j }
-
--- ---- as the code writes
-
-pub entry-long : (p : Registration) → length (p .name .bytes) ≡ 255 → length (p .extra .bytes) ≡ 128 → length (entryBytes p) ≡ entrySize
+entry-long : (p : Registration) → length (p .name .bytes) ≡ 255 → length (p .extra .bytes) ≡ 128 → length (entryBytes p) ≡ entrySize
 entry-long p h k =
     let t : List ℕ = encode tailL (tailValues p) in
     let e : List ℕ = be 1 (p .extra .len) ++ (p .extra .bytes ++ t) in
     omega (arith, h, k, length-append (p .name .bytes) e, length-append (p .extra .bytes) t)
+
+pub put-here : (b : List ℕ) (i : ℕ) (p : Registration) → i < places → length b ≡ size → Fits entryL (entryValues p)
+    → registryOf (overwrite b (headSize + i * entrySize) (entryBytes p)) ≡ placed (registryOf b) i p
+put-here b i p h l fits = set-here b (entryBytes p) i p h l (entry-long p (fits .1 .0) (fits .1 .1 .1 .0)) (entry-back p fits)
+
+pub none-here : entryBy (replicate entrySize 0) ≡ free
+unfolding entryBy beAt part free nameOf extraOf
+none-here = refl
+
+-- past the last place there is none
+past-end : (l : List Registration) (j : ℕ) (d : Registration) → length l ≤ j → getD l j d ≡ d
+past-end [] j d h = refl
+past-end (x ∷ l) zero d h = absurd (omega arith)
+past-end (x ∷ l) (suc j) d h = past-end l j d (omega arith)
+
+pub past-here : (b : List ℕ) (i : ℕ) → places ≤ i → entryAt (registryOf b) i ≡ free
+unfolding entryAt
+past-here b i h = past-end (registryOf b .registrations) i free (omega (arith, here-long b))
+
+pub clear-here : (b : List ℕ) (i : ℕ) → i < places → length b ≡ size → registryOf (overwrite b (headSize + i * entrySize) (replicate entrySize 0)) ≡ placed (registryOf b) i free
+clear-here b i h l = set-here b (replicate entrySize 0) i free h l refl none-here
+
+-- all zero: every place is free
+pub none-there : (b : List ℕ) → b ≡ replicate size 0 → registryOf b .registrations ≡ replicate places free
+unfolding registryOf
+none-there b e = ap entries e ∙ table-zeros entryBy entrySize free none-here places headSize size (omega arith)
+
+-- ---- as the code writes
 
 -- three parts side by side
 pub entry-split : (p : Registration)
     → ((be 1 (p .name .len) ++ p .name .bytes) ++ (be 1 (p .extra .len) ++ p .extra .bytes)) ++ encode tailL (tailValues p) ≡ entryBytes p
 entry-split p =
     ap (λ (l : List ℕ). be 1 (p .name .len) ++ l) (append-assoc (p .name .bytes) (be 1 (p .extra .len) ++ p .extra .bytes) (encode tailL (tailValues p)))
-
--- a shorter front of a front
-pub take-within : (n m : ℕ) (l : List ℕ) → n ≤ m → take n l ≡ take n (take m l)
-take-within zero m l h = refl
-take-within (suc n) zero l h = absurd (omega arith)
-take-within (suc n) (suc m) [] h = refl
-take-within (suc n) (suc m) (x ∷ l) h = ap (λ (r : List ℕ). x ∷ r) (take-within n m l (omega arith))
-
-pub past-end : (l : List Registration) (j : ℕ) (d : Registration) → length l ≤ j → getD l j d ≡ d
-past-end [] j d h = refl
-past-end (x ∷ l) zero d h = absurd (omega arith)
-past-end (x ∷ l) (suc j) d h = past-end l j d (omega arith)
 
 -- ---- port and next creation
 
@@ -167,32 +104,102 @@ pub head-here : (b : List ℕ) (p n : ℕ) → length b ≡ size → p < 256 ^ 2
 unfolding registryOf overwrite headFrom
 head-here b p n l h k =
     let e : List ℕ = encode headL (int p ∷ int n ∷ []) in
-    ap₂ headFrom (layout-back headL (int p ∷ int n ∷ []) (drop (0 + length e) b) (h, (k, tt)) .fields) (entries-after places headSize 0 b e (omega arith) (omega (arith, l)))
+    ap₂ headFrom (layout-back headL (int p ∷ int n ∷ []) (drop (0 + length e) b) (h, (k, tt)) .fields)
+    (table-after entryBy entrySize places headSize 0 b e (omega arith) (omega (arith, l)))
 
--- zeros are free registrations
-drop-zeros : (k n m : ℕ) → m ≡ k + n → drop k (replicate {A = ℕ} m 0) ≡ replicate n 0
-drop-zeros zero n m h =
-    let e : m ≡ n = omega (arith, h) in
-    ap (λ (j : ℕ). replicate j 0) e
-drop-zeros (suc k) n zero h = absurd (omega (arith, h))
-drop-zeros (suc k) n (suc m) h = drop-zeros k n m (omega (arith, h))
+port-kept : (b : List ℕ) (n : ℕ) → length b ≡ size → beAt 2 0 (overwrite b 2 (be 4 n)) ≡ beAt 2 0 b
+unfolding beAt
+port-kept b n l = ap num (part-before 0 2 2 b (be 4 n) (omega arith) (omega (arith, l)))
 
-take-zeros : (k m : ℕ) → k ≤ m → take k (replicate {A = ℕ} m 0) ≡ replicate k 0
-take-zeros zero m h = refl
-take-zeros (suc k) zero h = absurd (omega arith)
-take-zeros (suc k) (suc m) h = ap (λ (l : List ℕ). 0 ∷ l) (take-zeros k m (omega arith))
+next-there : (b : List ℕ) (n : ℕ) → length b ≡ size → n < 256 ^ 4 → beAt 4 2 (overwrite b 2 (be 4 n)) ≡ n
+unfolding overwrite
+next-there b n l h = beAt-behind (take 2 b) (drop (2 + length (be 4 n)) b) 2 4 n (length-take-le 2 b (omega (arith, l))) h
 
-zeros-free : entryBy (replicate entrySize 0) ≡ free
-unfolding entryBy beAt part free nameOf extraOf
-zeros-free = refl
+-- the next creation overwritten
+pub next-here : (b : List ℕ) (n : ℕ) → length b ≡ size → n < 256 ^ 4 → registryOf (overwrite b 2 (be 4 n)) ≡ headed (registryOf b .port) n (registryOf b)
+unfolding registryOf
+next-here b n l h =
+    let p0 : beAt 2 0 (overwrite b 2 (be 4 n)) ≡ beAt 2 0 b = port-kept b n l in
+    let p1 : beAt 4 2 (overwrite b 2 (be 4 n)) ≡ n = next-there b n l h in
+    let q : entries (overwrite b 2 (be 4 n)) ≡ entries b =
+    table-after entryBy entrySize places headSize 2 b (be 4 n) (omega (arith, be-length 4 n)) (omega (arith, l, be-length 4 n)) in
+    λ j. record { port = p0 j; next = p1 j; registrations = q j }
 
-entries-zero : (n o m : ℕ) → o + n * entrySize ≤ m → entriesIn n o (replicate m 0) ≡ replicate n free
-unfolding entriesIn part
-entries-zero zero o m h = refl
-entries-zero (suc n) o m h =
-    let e : m ≡ o + (m - o) = omega arith in
-    ap₂ (λ (x : Registration) (l : List Registration). x ∷ l) (ap entryBy (ap (take entrySize) (drop-zeros o (m - o) m e) ∙ take-zeros entrySize (m - o) (omega arith)) ∙ zeros-free)
-    (entries-zero n (o + entrySize) m (omega arith))
+-- ---- the texts of a record
 
-pub none-there : entriesIn places headSize (replicate size 0) ≡ replicate places free
-none-there = entries-zero places headSize size (omega arith)
+text-here : (o m n : ℕ) (b : List ℕ) → n ≤ m → take n (part o m b) ≡ part o n b
+unfolding part
+text-here o m n b h = sym (take-within n m (drop o b) h)
+
+pub name-here : (b : List ℕ) (n : ℕ) → n ≡ beAt 1 0 b → n ≤ 255 → nameBytes (entryBy b .name) ≡ part 1 n b
+unfolding entryBy nameBytes
+name-here b n e h = ap (λ (k : ℕ). take k (part 1 255 b)) (sym e) ∙ text-here 1 255 n b h
+
+pub extra-here : (b : List ℕ) (n : ℕ) → n ≡ beAt 1 256 b → n ≤ 128 → extraBytes (entryBy b .extra) ≡ part 257 n b
+unfolding entryBy extraBytes
+extra-here b n e h = ap (λ (k : ℕ). take k (part 257 128 b)) (sym e) ∙ text-here 257 128 n b h
+
+-- a length above 128 counts all
+pub extra-whole : (b : List ℕ) (n : ℕ) → n ≡ beAt 1 256 b → 128 ≤ n → length b ≡ entrySize → extraBytes (entryBy b .extra) ≡ part 257 128 b
+unfolding entryBy extraBytes
+extra-whole b n e h l =
+    ap (λ (k : ℕ). take k (part 257 128 b)) (sym e) ∙ take-all n (part 257 128 b) (omega (arith, h, part-length 257 128 b (omega (arith, l))))
+
+-- ---- whose registration it is
+
+module _ (name : List ℕ) (p : Registration) where
+  and-false : (b : Bool) → b && false ≡ false
+  and-false true = refl
+  and-false false = refl
+
+  pub other-length : (length (nameBytes (p .name)) ≡ length name → ⊥) → false ≡ hasName name p
+  unfolding hasName
+  other-length h = sym (ap (λ (t : Bool). not (isFree p) && t) (same-length-ne (nameBytes (p .name)) name h) ∙ and-false (not (isFree p)))
+
+  pub none-held : length (nameBytes (p .name)) ≡ 0 → false ≡ hasName name p
+  unfolding hasName isFree
+  none-held h = rw (eq-eqb (length (nameBytes (p .name))) 0 h)
+
+  pub by-bytes : (length (nameBytes (p .name)) ≡ 0 → ⊥) → sameBytes (nameBytes (p .name)) name ≡ hasName name p
+  unfolding hasName isFree
+  by-bytes h = rw (ne-eqb (length (nameBytes (p .name))) 0 h)
+
+-- ---- look-up: what is known before place i, over any test
+
+pub record Sought (p : Registration → Bool) (b : List ℕ) (i : ℕ) : Type 0 where
+  pub within : i ≤ places
+  pub passed : firstAt p (registryOf b .registrations) ≡ i + firstAt p (drop i (registryOf b .registrations))
+
+pub seek : (p : Registration → Bool) (b : List ℕ) → Sought p b 0
+seek p b = record { within = omega arith; passed = omega arith }
+
+module _ (p : Registration → Bool) (b : List ℕ) (i : ℕ) (r : List ℕ) (s : Sought p b i) where
+  module _ (h : i < places) (here : entryBy r ≡ entryAt (registryOf b) i) where
+    pub hit : p (entryBy r) ≡ true → i ≡ firstAt p (registryOf b .registrations)
+    unfolding entryAt
+    hit t = omega (arith, s .passed, first-hit p (registryOf b .registrations) i free (omega (arith, here-long b)) (ap p (sym here) ∙ t))
+
+    pub skip : p (entryBy r) ≡ false → Sought p b (i + 1)
+    unfolding entryAt
+    skip t =
+        record {
+          within = omega arith;
+          passed = omega (arith, s .passed, first-skip p (registryOf b .registrations) i free (omega (arith, here-long b)) (ap p (sym here) ∙ t));
+        }
+
+  pub missed : places ≤ i → i ≡ firstAt p (registryOf b .registrations)
+  missed h = omega (arith, s .within, s .passed, first-end p (registryOf b .registrations) i (omega (arith, here-long b)))
+
+-- ---- as the numbers of a record are written, one behind the other
+
+pub record Put (before after : List ℕ) (at : ℕ) (bytes : List ℕ) (next : ℕ) : Type 0 where
+  pub is : after ≡ overwrite before at bytes
+  pub there : next ≡ at + length bytes
+
+pub then : (before after : List ℕ) (at : ℕ) (bytes : List ℕ) (next : ℕ) (more later : List ℕ) (end : ℕ) → at ≤ length before
+    → Put before after at bytes next → later ≡ overwrite after next more → end ≡ next + length more → Put before later at (bytes ++ more) end
+then before after at bytes next more later end room p e n =
+    record {
+      is = e ∙ ap (λ (l : List ℕ). overwrite l next more) (p .is) ∙ overwrite-join before at bytes more next room (sym (p .there));
+      there = omega (arith, p .there, n, length-append bytes more);
+    }

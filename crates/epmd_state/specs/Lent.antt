@@ -1,10 +1,10 @@
 -- A registry as it lies in bytes that a host lends: its own port and next creation, and 64 records. Sizes follow from the layouts.
-use Prim.Native.Nat.{ℕ, zero, suc, _+_, _*_}
+use Prim.Native.Nat.{ℕ, _+_, _*_}
 use mathlib.Core.Path.{_≡_}
 use mathlib.Core.Bool.{Bool}
-use mathlib.Core.List.{List, [], _∷_}
+use mathlib.Core.List.{List, [], _∷_, _++_}
 use lib.ListN.{getD, set}
-use Rattle.wire.specs.Run.{part}
+use Rattle.wire.specs.Table.{table}
 use Rattle.wire.specs.Output.{written}
 use Rattle.wire.specs.Layout.{number, bytes, Layout, Value, int, run, encode, decode, extent, intOf, runOf, intAt}
 use Rattle.epmd_rules.specs.State.{Registry, Made, Closed}
@@ -25,14 +25,21 @@ headL = number 2 ∷ number 4 ∷ []
 abbrev pub tailL : Layout
 tailL = number 1 ∷ number 1 ∷ number 2 ∷ number 2 ∷ number 2 ∷ number 4 ∷ number 4 ∷ []
 
+abbrev pub textL : Layout
+textL = number 1 ∷ bytes 255 ∷ number 1 ∷ bytes 128 ∷ []
+
 abbrev pub entryL : Layout
-entryL = number 1 ∷ bytes 255 ∷ number 1 ∷ bytes 128 ∷ tailL
+entryL = textL ++ tailL
 
 abbrev pub places : ℕ
 places = 64
 
 abbrev pub headSize : ℕ
 headSize = extent headL []
+
+-- where the numbers of a record begin
+abbrev pub tailAt : ℕ
+tailAt = extent textL []
 
 abbrev pub entrySize : ℕ
 entrySize = extent entryL []
@@ -51,6 +58,28 @@ entryValues p = int (p .name .len) ∷ run (p .name .bytes) ∷ int (p .extra .l
 abbrev pub entryBytes : Registration → List ℕ
 entryBytes p = encode entryL (entryValues p)
 
+-- the numbers of a record
+abbrev pub kindIn : List ℕ → ℕ
+kindIn b = intAt entryL 4 b
+
+abbrev pub protocolIn : List ℕ → ℕ
+protocolIn b = intAt entryL 5 b
+
+abbrev pub portIn : List ℕ → ℕ
+portIn b = intAt entryL 6 b
+
+abbrev pub highestIn : List ℕ → ℕ
+highestIn b = intAt entryL 7 b
+
+abbrev pub lowestIn : List ℕ → ℕ
+lowestIn b = intAt entryL 8 b
+
+abbrev pub connectionIn : List ℕ → ℕ
+connectionIn b = intAt entryL 9 b
+
+abbrev pub creationIn : List ℕ → ℕ
+creationIn b = intAt entryL 10 b
+
 abbrev pub entryFrom : List Value → Registration
 entryFrom vs =
     record {
@@ -68,12 +97,8 @@ entryFrom vs =
 unfoldable pub entryBy : List ℕ → Registration
 entryBy c = entryFrom (decode entryL c)
 
-unfoldable pub entriesIn : ℕ → ℕ → List ℕ → List Registration
-entriesIn zero o b = []
-entriesIn (suc n) o b = entryBy (part o entrySize b) ∷ entriesIn n (o + entrySize) b
-
 unfoldable pub registryOf : List ℕ → Registry
-registryOf b = record { port = intAt headL 0 b; next = intAt headL 1 b; registrations = entriesIn places headSize b }
+registryOf b = record { port = intAt headL 0 b; next = intAt headL 1 b; registrations = table entryBy entrySize places headSize b }
 
 -- ---- what a call does with them
 

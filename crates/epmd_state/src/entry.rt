@@ -24,7 +24,7 @@ ghost use lib.ListN.{length};
 ghost use Rattle.names.specs.Held.{nameBytes};
 ghost use Rattle.epmd_rules.specs.Registration.{isFree, heldExtra, extraBytes};
 ghost use Rattle.epmd_rules.specs.Registry.{entryAt};
-ghost use Rattle.epmd_state.specs.Lent.{places, entrySize, size, entryBy, registryOf};
+ghost use Rattle.epmd_state.specs.Lent.{places, entrySize, size, kindIn, protocolIn, portIn, highestIn, lowestIn, connectionIn, creationIn, entryBy, registryOf};
 
 pub fn record_of(state: &[u8], at: usize) -> &[u8]
     requires { ⌜ (at < places) × (length (now state) ≡ size) ⌝ }
@@ -65,49 +65,49 @@ pub fn extra(bytes: &[u8]) -> &[u8]
 
 pub fn kind(bytes: &[u8]) -> u8
     requires { ⌜ length (now bytes) ≡ entrySize ⌝ }
-    ensures { λ r. ⌜ r ≡ entryBy (now (bytes .entry)) .kind ⌝ }
+    ensures { λ r. ⌜ r ≡ kindIn (now (bytes .entry)) ⌝ }
 {
     wire::get8(bytes, KIND)
 }
 
 pub fn protocol(bytes: &[u8]) -> u8
     requires { ⌜ length (now bytes) ≡ entrySize ⌝ }
-    ensures { λ r. ⌜ r ≡ entryBy (now (bytes .entry)) .protocol ⌝ }
+    ensures { λ r. ⌜ r ≡ protocolIn (now (bytes .entry)) ⌝ }
 {
     wire::get8(bytes, PROTOCOL)
 }
 
 pub fn port(bytes: &[u8]) -> u16
     requires { ⌜ length (now bytes) ≡ entrySize ⌝ }
-    ensures { λ r. ⌜ r ≡ entryBy (now (bytes .entry)) .port ⌝ }
+    ensures { λ r. ⌜ r ≡ portIn (now (bytes .entry)) ⌝ }
 {
     wire::get16(bytes, NODE_PORT)
 }
 
 pub fn highest(bytes: &[u8]) -> u16
     requires { ⌜ length (now bytes) ≡ entrySize ⌝ }
-    ensures { λ r. ⌜ r ≡ entryBy (now (bytes .entry)) .highest ⌝ }
+    ensures { λ r. ⌜ r ≡ highestIn (now (bytes .entry)) ⌝ }
 {
     wire::get16(bytes, HIGHEST)
 }
 
 pub fn lowest(bytes: &[u8]) -> u16
     requires { ⌜ length (now bytes) ≡ entrySize ⌝ }
-    ensures { λ r. ⌜ r ≡ entryBy (now (bytes .entry)) .lowest ⌝ }
+    ensures { λ r. ⌜ r ≡ lowestIn (now (bytes .entry)) ⌝ }
 {
     wire::get16(bytes, LOWEST)
 }
 
 pub fn connection(bytes: &[u8]) -> u32
     requires { ⌜ length (now bytes) ≡ entrySize ⌝ }
-    ensures { λ r. ⌜ r ≡ entryBy (now (bytes .entry)) .connection ⌝ }
+    ensures { λ r. ⌜ r ≡ connectionIn (now (bytes .entry)) ⌝ }
 {
     wire::get32(bytes, CONNECTION)
 }
 
 pub fn creation(bytes: &[u8]) -> u32
     requires { ⌜ length (now bytes) ≡ entrySize ⌝ }
-    ensures { λ r. ⌜ r ≡ entryBy (now (bytes .entry)) .creation ⌝ }
+    ensures { λ r. ⌜ r ≡ creationIn (now (bytes .entry)) ⌝ }
 {
     wire::get32(bytes, CREATION)
 }

@@ -1,10 +1,9 @@
 // Look-up: each tells the lowest place that is sought, or 64. The loops are apart, since a look-up by
 // name is what a mapper does most: of a place that does not match it reads one byte.
+use crate::entry;
 use crate::entry::connection;
 use crate::entry::is_free;
 use crate::entry::record_of;
-use crate::layout::NAME;
-use crate::layout::NAME_LEN;
 use crate::layout::PLACES;
 ghost use mathlib.Core.Path.{_≡_};
 ghost use lib.ListN.{length};
@@ -16,14 +15,14 @@ fn has_name(bytes: &[u8], name: &[u8]) -> bool
     requires { ⌜ length (now bytes) ≡ entrySize ⌝ }
     ensures { λ r. ⌜ r ≡ hasName (now (name .entry)) (entryBy (now (bytes .entry))) ⌝ }
 {
-    let len = wire::get8(bytes, NAME_LEN) as usize;
-    if len != name.len() {
+    let held = entry::name(bytes);
+    if held.len() != name.len() {
         return false;
     }
-    if len == 0 {
+    if held.len() == 0 {
         return false;
     }
-    wire::same_bytes(wire::get_part(bytes, NAME, len), name)
+    wire::same_bytes(held, name)
 }
 
 fn has_connection(bytes: &[u8], c: u32) -> bool

@@ -23,16 +23,13 @@ pub fn put_next(state: &mut [u8], next: u32)
     requires { ⌜ length (now state) ≡ size ⌝ }
     ensures { λ _. ⌜ registryOf (now (state .exit)) ≡ headed (registryOf (now (state .entry)) .port) next (registryOf (now (state .entry))) ⌝ }
 {
-    let n = wire::be32(next);
-    wire::put_bytes(state, NEXT, &n);
+    wire::put32(state, NEXT, next);
 }
 
 pub fn put_head(state: &mut [u8], port: u16, next: u32)
     requires { ⌜ length (now state) ≡ size ⌝ }
     ensures { λ _. ⌜ registryOf (now (state .exit)) ≡ headed port next (registryOf (now (state .entry))) ⌝ }
 {
-    let p = wire::be16(port);
-    let n = wire::be32(next);
-    wire::put_bytes(state, PORT, &p);
-    wire::put_bytes(state, NEXT, &n);
+    wire::put16(state, PORT, port);
+    wire::put32(state, NEXT, next);
 }
