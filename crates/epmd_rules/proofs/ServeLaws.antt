@@ -39,3 +39,25 @@ module _ (r : Registry) (c : ℕ) (b : List ℕ) (k : ℕ) (e : k ≡ resultOf r
   pub alive2-fills : k ≡ 0 → alive2Of r c b ≡ replied (filled r (registrationOf c (r .next) b)) (alive2Reply (intAt alive2Req 4 b) 0 (r .next))
   unfolding alive2Of
   alive2-fills h = rw (← e, eq-eqb k 0 h)
+
+-- where a registration would go, by its Result: a place below 64, or 64 for Result 1
+module _ (r : Registry) (c : ℕ) (name : List ℕ) (p : ℕ) (e : p ≡ cond (eqb (resultOf r c name) 0) (lowestFree r) 64) where
+  pub no-place : 64 ≤ p → resultOf r c name ≡ 1
+  unfolding resultOf
+  no-place h = by (ltb (byName r name) 64) (ltb (byConnection r c) 64) (ltb (lowestFree r) 64) refl e where
+    by : (n k f : Bool) → ltb (lowestFree r) 64 ≡ f → p ≡ cond (eqb (cond n 1 (cond k 1 (cond f 0 1))) 0) (lowestFree r) 64
+        → _≡_ {A = ℕ} (cond n 1 (cond k 1 (cond f 0 1))) 1
+    by true k f g q = refl
+    by false true f g q = refl
+    by false false true g q = absurd (omega (arith, h, q, ltb-true (lowestFree r) 64 g))
+    by false false false g q = refl
+
+  pub a-place : p < 64 → (resultOf r c name ≡ 0) × (p ≡ lowestFree r)
+  unfolding resultOf
+  a-place h = by (ltb (byName r name) 64) (ltb (byConnection r c) 64) (ltb (lowestFree r) 64) e where
+    by : (n k f : Bool) → p ≡ cond (eqb (cond n 1 (cond k 1 (cond f 0 1))) 0) (lowestFree r) 64
+        → (_≡_ {A = ℕ} (cond n 1 (cond k 1 (cond f 0 1))) 0) × (p ≡ lowestFree r)
+    by true k f q = absurd (omega (arith, h, q))
+    by false true f q = absurd (omega (arith, h, q))
+    by false false true q = (refl, q)
+    by false false false q = absurd (omega (arith, h, q))
