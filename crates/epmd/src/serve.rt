@@ -76,17 +76,17 @@ fn alive2(state: &mut [u8], connection: u32, body: &[u8], out: &mut [u8]) -> Ans
         return Answer::Written(n);
     }
     let creation = next(&state[..]);
-    fill(state, at, registration_of(body, connection, creation), creation);
+    fill(
+        state,
+        at,
+        registration_of(body, connection, creation),
+        creation,
+    );
     let n = put_alive2_reply(out, highest, 0, creation);
     Answer::Written(n)
 }
 
-pub(crate) fn request_in(
-    state: &mut [u8],
-    connection: u32,
-    frame: &[u8],
-    out: &mut [u8],
-) -> Answer
+pub(crate) fn request_in(state: &mut [u8], connection: u32, frame: &[u8], out: &mut [u8]) -> Answer
     requires { ⌜ length (now state) ≡ size ⌝ }
     ensures { λ r. ⌜ Does (requestOf (registryOf (now (state .entry))) connection (now (frame .entry)) (length (now (out .entry)))) r (now (state .exit)) (now (out .entry)) (now (out .exit)) ⌝ }
 {

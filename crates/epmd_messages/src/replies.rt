@@ -12,6 +12,7 @@ ghost use Rattle.epmd_rules.specs.Replies.{creationField, shortCreation, alive2
 
 // The longest line of a NAMES reply, and the longest reply: what every frame call asks for.
 pub const LINE: usize = 275;
+
 pub const ROOM: usize = 4 + 64 * LINE;
 
 // With a Result above 0 the creation field is 0.

@@ -17,12 +17,19 @@ ghost use Rattle.epmd_rules.specs.Serve.{Alive2Body, registrationOf};
 
 // Where the fields of an ALIVE2 body are: behind the name stand Elen and the extra bytes.
 const PORT: usize = 1;
+
 const KIND: usize = 3;
+
 const PROTOCOL: usize = 4;
+
 const HIGHEST: usize = 5;
+
 const LOWEST: usize = 7;
+
 const NLEN: usize = 9;
+
 const NAME: usize = 11;
+
 const LEAST: usize = NAME + 2;
 
 // Tags 100, 107 and 115: DUMP, KILL and STOP.

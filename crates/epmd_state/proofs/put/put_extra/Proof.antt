@@ -32,9 +32,11 @@ returns c =
     let a = c .before .before .before .before .before .before .before .before .before .before .before .args in
     let s = a .extra in
     let room : length (s .bytes) ≡ 128 = search needs in
-    let small : s .len < 256 = search needs in
-    (c .before .before .put-bytes .ensures ∙ ap (λ (x : List ℕ). overwrite x (a .at + 1) (s .bytes)) (c .before .before .before .before .before .before .before .put8 .ensures)
-    ∙ overwrite-join (a .state .now) (a .at) (be 1 (s .len)) (s .bytes) (a .at + 1) (omega (arith, c .before .before .before .before .before .before .before .before .before .before .before .pre)) (omega arith), (room, small))
+    let small : s .len < 256 = search needs in (
+      c .before .before .put-bytes .ensures ∙ ap (λ (x : List ℕ). overwrite x (a .at + 1) (s .bytes)) (c .before .before .before .before .before .before .before .put8 .ensures)
+          ∙ overwrite-join (a .state .now) (a .at) (be 1 (s .len)) (s .bytes) (a .at + 1) (omega (arith, c .before .before .before .before .before .before .before .before .before .before .before .pre)) (omega arith),
+      (room, small),
+    )
 
 pub put-extra-spec : {M : Type 1} → statement M
 put-extra-spec =

@@ -43,9 +43,11 @@ returns c =
     let s = a .name in
     let room : length (s .bytes) ≡ 255 = search needs in
     let small : s .len < 256 = search needs in
-    let n : c .before .before .before .before .before .before .before .before .before .before .size .result ≡ s .len = c .before .before .before .before .before .before .before .before .before .before .size .ensures .0 ∙ sym (name-length s room small) in
-    (c .before .before .put-bytes .ensures ∙ ap₂ (λ (x y : List ℕ). overwrite x (a .at + 1) y) (c .before .before .before .before .before .before .before .put8 .ensures ∙ ap (λ (k : ℕ). overwrite (a .state .now) (a .at) (be 1 k)) n) (c .before .before .before .before .before .before .before .before .before .array .ensures)
-    ∙ overwrite-join (a .state .now) (a .at) (be 1 (s .len)) (s .bytes) (a .at + 1) (omega (arith, c .before .before .before .before .before .before .before .before .before .before .before .before .pre)) (omega arith), (room, small))
+    let n : c .before .before .before .before .before .before .before .before .before .before .size .result ≡ s .len = c .before .before .before .before .before .before .before .before .before .before .size .ensures .0 ∙ sym (name-length s room small) in (
+      c .before .before .put-bytes .ensures ∙ ap₂ (λ (x y : List ℕ). overwrite x (a .at + 1) y) (c .before .before .before .before .before .before .before .put8 .ensures ∙ ap (λ (k : ℕ). overwrite (a .state .now) (a .at) (be 1 k)) n) (c .before .before .before .before .before .before .before .before .before .array .ensures)
+          ∙ overwrite-join (a .state .now) (a .at) (be 1 (s .len)) (s .bytes) (a .at + 1) (omega (arith, c .before .before .before .before .before .before .before .before .before .before .before .before .pre)) (omega arith),
+      (room, small),
+    )
 
 pub put-name-spec : {M : Type 1} → statement M
 put-name-spec =
