@@ -1,12 +1,12 @@
 -- Laws of a registry that lies in bytes: a registration is read where it lies, and overwriting it changes it alone. Assumes nothing.
 use Prim.Native.Nat.{ℕ, zero, suc, _+_, _*_, _^_, _≤_, _<_}
 use mathlib.Core.Path.{_≡_, refl, sym, _∙_, ap, ap₂}
-use mathlib.Core.Bool.{Bool, true, false, _&&_, not}
+use mathlib.Core.Bool.{Bool, true, false, cond, _&&_, not}
 use mathlib.Core.List.{List, [], _∷_, _++_, append-nil, append-assoc}
 use native.Mathlib.Omega.{arith}
-use borrow.Author.Tests.{eq-eqb, ne-eqb}
-use lib.ListN.{length, length-append, getD, set, take, drop, replicate}
-use lib.Seq.{length-take-le, take-all}
+use borrow.Author.Tests.{eq-eqb, ne-eqb, eqb-false}
+use lib.ListN.{length, length-append, length-drop, getD, set, take, drop, replicate}
+use lib.Seq.{length-take-le, take-all, drop-drop}
 use Rattle.wire.specs.Run.{part, sameBytes}
 use Rattle.wire.specs.Number.{be, num, beAt}
 use Rattle.wire.specs.Output.{overwrite}
@@ -15,14 +15,14 @@ use Rattle.wire.specs.Lookup.{firstAt}
 use Rattle.wire.specs.Layout.{Value, int, encode, decode, intOf, Fits}
 use Rattle.wire.proofs.NumberLaws.{be-length}
 use Rattle.wire.proofs.LayoutLaws.{layout-back, beAt-behind}
-use Rattle.wire.proofs.LookupLaws.{first-skip, first-hit, first-end}
+use Rattle.wire.proofs.LookupLaws.{first-skip, first-hit, first-end, first-within}
 use Rattle.wire.proofs.OutputLaws.{overwrite-join}
 use Rattle.wire.proofs.TableLaws.{take-within, part-before, table-count, table-at, table-after, table-set, table-zeros}
-use Rattle.wire.proofs.RunLaws.{part-length, same-length-ne}
+use Rattle.wire.proofs.RunLaws.{part-length, same-length-ne, same-false}
 use Rattle.names.specs.Held.{nameOf, nameBytes}
 use Rattle.epmd_rules.specs.State.{Registry}
 use Rattle.epmd_rules.specs.declared.registration.Registration.{Registration}
-use Rattle.epmd_rules.specs.Registration.{free, isFree, hasName, extraOf, extraBytes}
+use Rattle.epmd_rules.specs.Registration.{free, isFree, hasLength, hasName, extraOf, extraBytes}
 use Rattle.epmd_rules.specs.Registry.{entryAt}
 use Rattle.epmd_state.specs.Lent.{headL, tailL, entryL, places, headSize, entrySize, size, tailValues, entryValues, entryBytes, entryFrom, entryBy, registryOf, placed, headed}
 
@@ -156,6 +156,12 @@ module _ (name : List ℕ) (p : Registration) where
   unfolding hasName
   other-length h = sym (ap (λ (t : Bool). not (isFree p) && t) (same-length-ne (nameBytes (p .name)) name h) ∙ and-false (not (isFree p)))
 
+  pub other-end : (i : ℕ) → (getD (nameBytes (p .name)) i 0 ≡ getD name i 0 → ⊥) → false ≡ hasName name p
+  unfolding hasName
+  other-end i h =
+      sym (ap (λ (t : Bool). not (isFree p) && t) (same-false (nameBytes (p .name)) name (λ e. h (ap (λ (l : List ℕ). getD l i 0) e)))
+      ∙ and-false (not (isFree p)))
+
   pub none-held : length (nameBytes (p .name)) ≡ 0 → false ≡ hasName name p
   unfolding hasName isFree
   none-held h = rw (eq-eqb (length (nameBytes (p .name))) 0 h)
@@ -164,31 +170,59 @@ module _ (name : List ℕ) (p : Registration) where
   unfolding hasName isFree
   by-bytes h = rw (ne-eqb (length (nameBytes (p .name))) 0 h)
 
--- ---- look-up: what is known before place i, over any test
+-- ---- look-up: what is known before place i, over any test; t is what is sought
 
-pub record Sought (p : Registration → Bool) (b : List ℕ) (i : ℕ) : Type 0 where
+abbrev left : (b : List ℕ) (i : ℕ) → List Registration
+left b i = drop i (registryOf b .registrations)
+
+pub record Sought (p : Registration → Bool) (b : List ℕ) (t i : ℕ) : Type 0 where
   pub within : i ≤ places
-  pub passed : firstAt p (registryOf b .registrations) ≡ i + firstAt p (drop i (registryOf b .registrations))
+  pub passed : t ≡ i + firstAt p (left b i)
 
-pub seek : (p : Registration → Bool) (b : List ℕ) → Sought p b 0
-seek p b = record { within = omega arith; passed = omega arith }
+pub seek : (p : Registration → Bool) (b : List ℕ) (i : ℕ) → i ≤ places → Sought p b (i + firstAt p (left b i)) i
+seek p b i h = record { within = h; passed = refl }
 
-module _ (p : Registration → Bool) (b : List ℕ) (i : ℕ) (r : List ℕ) (s : Sought p b i) where
+pub seek-all : (p : Registration → Bool) (b : List ℕ) → Sought p b (firstAt p (registryOf b .registrations)) 0
+seek-all p b = record { within = omega arith; passed = omega arith }
+
+module _ (p : Registration → Bool) (b : List ℕ) (t i : ℕ) (r : List ℕ) (s : Sought p b t i) where
   module _ (h : i < places) (here : entryBy r ≡ entryAt (registryOf b) i) where
-    pub hit : p (entryBy r) ≡ true → i ≡ firstAt p (registryOf b .registrations)
+    pub hit : p (entryBy r) ≡ true → i ≡ t
     unfolding entryAt
-    hit t = omega (arith, s .passed, first-hit p (registryOf b .registrations) i free (omega (arith, here-long b)) (ap p (sym here) ∙ t))
+    hit e = omega (arith, s .passed, first-hit p (registryOf b .registrations) i free (omega (arith, here-long b)) (ap p (sym here) ∙ e))
 
-    pub skip : p (entryBy r) ≡ false → Sought p b (i + 1)
+    pub skip : p (entryBy r) ≡ false → Sought p b t (i + 1)
     unfolding entryAt
-    skip t =
+    skip e =
         record {
           within = omega arith;
-          passed = omega (arith, s .passed, first-skip p (registryOf b .registrations) i free (omega (arith, here-long b)) (ap p (sym here) ∙ t));
+          passed = omega (arith, s .passed, first-skip p (registryOf b .registrations) i free (omega (arith, here-long b)) (ap p (sym here) ∙ e));
         }
 
-  pub missed : places ≤ i → i ≡ firstAt p (registryOf b .registrations)
+  pub missed : places ≤ i → i ≡ t
   missed h = omega (arith, s .within, s .passed, first-end p (registryOf b .registrations) i (omega (arith, here-long b)))
+
+-- places whose name has another length are passed over
+pass-lengths : (name : List ℕ) (ps : List Registration)
+    → firstAt (hasName name) ps ≡ firstAt (hasLength (length name)) ps + firstAt (hasName name) (drop (firstAt (hasLength (length name)) ps) ps)
+unfolding firstAt
+pass-lengths name [] = refl
+pass-lengths name (p ∷ ps) = by (pass-lengths name ps) (hasLength (length name) p) refl where
+  later : ℕ
+  later = firstAt (hasLength (length name)) ps
+
+  by : firstAt (hasName name) ps ≡ later + firstAt (hasName name) (drop later ps) → (t : Bool) → hasLength (length name) p ≡ t
+      → cond (hasName name p) 0 (suc (firstAt (hasName name) ps)) ≡ cond t 0 (suc later) + firstAt (hasName name) (drop (cond t 0 (suc later)) (p ∷ ps))
+  by after true e = omega arith
+  by after false e = rw (sym (other-length name p (eqb-false (length (nameBytes (p .name))) (length name) e))) (omega (arith, after))
+
+pub leap : (name b : List ℕ) (t i j : ℕ) → Sought (hasName name) b t i → j ≡ i + firstAt (hasLength (length name)) (left b i) → Sought (hasName name) b t j
+leap name b t i j s e =
+    let k = firstAt (hasLength (length name)) (left b i) in
+    record {
+      within = omega (arith, e, s .within, first-within (hasLength (length name)) (left b i), length-drop i (registryOf b .registrations), here-long b);
+      passed = omega (arith, s .passed, e, pass-lengths name (left b i), ap (firstAt (hasName name)) (drop-drop k i (registryOf b .registrations) ∙ ap (left b) (sym e)));
+    }
 
 -- ---- as the numbers of a record are written, one behind the other
 

@@ -1,25 +1,45 @@
-// Look-up: each tells the lowest place that is sought, or 64. The loops are apart, since a look-up by
-// name is what a mapper does most: of a place that does not match it reads one byte.
+// Look-up: each tells the lowest place that is sought, or 64. A look-up by name is what a mapper does
+// most, so the loop that it runs reads one byte of a place, the length of its name.
 use crate::entry;
-use crate::entry::connection;
-use crate::entry::is_free;
 use crate::entry::record_of;
 use crate::layout::PLACES;
 ghost use mathlib.Core.Path.{_≡_};
-ghost use lib.ListN.{length};
-ghost use Rattle.epmd_rules.specs.Registration.{hasName, hasConnection};
+ghost use Prim.Native.Nat.{_+_, _≤_};
+ghost use lib.ListN.{length, drop};
+ghost use Rattle.wire.specs.Lookup.{firstAt};
+ghost use Rattle.epmd_rules.specs.Registration.{hasLength, hasName, hasConnection};
 ghost use Rattle.epmd_rules.specs.Registry.{byName, byConnection, lowestFree};
-ghost use Rattle.epmd_state.specs.Lent.{entrySize, size, entryBy, registryOf};
+ghost use Rattle.epmd_state.specs.Lent.{places, entrySize, size, entryBy, registryOf};
 
+// From a place on, the first whose name has n bytes.
+fn find_length(state: &[u8], from: usize, n: usize) -> usize
+    requires { ⌜ (from ≤ places) × (length (now state) ≡ size) ⌝ }
+    ensures { λ r. ⌜ r ≡ from + firstAt (hasLength n) (drop from (registryOf (now (state .entry)) .registrations)) ⌝ }
+{
+    let mut i = from;
+    while i < PLACES {
+        if entry::has_length(record_of(state, i), n) {
+            return i;
+        }
+        i += 1;
+    }
+    i
+}
+
+// Names of one length often differ in their last byte, so that is compared first.
 fn has_name(bytes: &[u8], name: &[u8]) -> bool
     requires { ⌜ length (now bytes) ≡ entrySize ⌝ }
     ensures { λ r. ⌜ r ≡ hasName (now (name .entry)) (entryBy (now (bytes .entry))) ⌝ }
 {
     let held = entry::name(bytes);
-    if held.len() != name.len() {
+    let n = held.len();
+    if n != name.len() {
         return false;
     }
-    if held.len() == 0 {
+    if n == 0 {
+        return false;
+    }
+    if held[n - 1] != name[n - 1] {
         return false;
     }
     wire::same_bytes(held, name)
@@ -29,22 +49,23 @@ fn has_connection(bytes: &[u8], c: u32) -> bool
     requires { ⌜ length (now bytes) ≡ entrySize ⌝ }
     ensures { λ r. ⌜ r ≡ hasConnection c (entryBy (now (bytes .entry))) ⌝ }
 {
-    if is_free(bytes) {
+    if entry::is_free(bytes) {
         return false;
     }
-    connection(bytes) == c
+    entry::connection(bytes) == c
 }
 
 pub fn find_name(state: &[u8], name: &[u8]) -> usize
     requires { ⌜ length (now state) ≡ size ⌝ }
     ensures { λ r. ⌜ r ≡ byName (registryOf (now (state .entry))) (now (name .entry)) ⌝ }
 {
-    let mut i: usize = 0;
+    let n = name.len();
+    let mut i = find_length(state, 0, n);
     while i < PLACES {
         if has_name(record_of(state, i), name) {
             return i;
         }
-        i += 1;
+        i = find_length(state, i + 1, n);
     }
     i
 }
@@ -67,12 +88,5 @@ pub fn find_free(state: &[u8]) -> usize
     requires { ⌜ length (now state) ≡ size ⌝ }
     ensures { λ r. ⌜ r ≡ lowestFree (registryOf (now (state .entry))) ⌝ }
 {
-    let mut i: usize = 0;
-    while i < PLACES {
-        if is_free(record_of(state, i)) {
-            return i;
-        }
-        i += 1;
-    }
-    i
+    find_length(state, 0, 0)
 }
