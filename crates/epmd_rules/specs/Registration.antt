@@ -39,10 +39,6 @@ free =
 unfoldable pub isFree : Registration → Bool
 isFree p = eqb (length (nameBytes (p .name))) 0
 
--- a name of so many bytes; a free place has one of none
-abbrev pub hasLength : ℕ → Registration → Bool
-hasLength n p = eqb (length (nameBytes (p .name))) n
-
 -- "Equal means equal bytes."
 unfoldable pub hasName : List ℕ → Registration → Bool
 hasName name p = not (isFree p) && sameBytes (nameBytes (p .name)) name

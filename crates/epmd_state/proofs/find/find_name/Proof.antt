@@ -11,20 +11,24 @@ use Rattle.epmd_state.proofs.find.find_name.Statement.{statement}
 use Rattle.epmd_state.proofs.find.find_name.Tie as tie
 
 abbrev Inv-loop : tie.InvT-loop
-Inv-loop state name n i₀ i = Sought (hasName name) state (byName (registryOf state) name) i
+Inv-loop state name n last i₀ i = Sought (hasName name) state (byName (registryOf state) name) i
 
 abbrev μ-loop : tie.MeasureT-loop
-μ-loop state name n i₀ i = places - i
+μ-loop state name n last i₀ i = places - i
 
-find-length-requires : tie.Need-find-length-requires Inv-loop μ-loop
-find-length-requires c κs =
+last-of-requires : tie.Need-last-of-requires Inv-loop μ-loop
+last-of-requires c κs =
+    search needs
+
+find-like-requires : tie.Need-find-like-requires Inv-loop μ-loop
+find-like-requires c κs =
     (omega arith, search needs)
 
 loop-holds : tie.Need-loop-holds Inv-loop μ-loop
 unfolding byName
 loop-holds c =
-    let a = c .before .before .before .args in
-    leap (a .name .now) (a .state .now) _ 0 _ (seek-all (hasName (a .name .now)) (a .state .now)) (c .find-length .ensures)
+    let a = c .before .before .before .before .args in
+    leap (a .name .now) (a .state .now) _ 0 _ _ (c .before .last-of .ensures) (seek-all (hasName (a .name .now)) (a .state .now)) (c .find-like .ensures)
 
 record-of-requires : tie.Need-record-of-requires Inv-loop μ-loop
 record-of-requires c κs =
@@ -36,33 +40,33 @@ has-name-requires c κs =
 
 returns : tie.Need-returns Inv-loop μ-loop
 returns c =
-    let a = c .before .before .before .before .before .before .before .before .args in
+    let a = c .before .before .before .before .before .before .before .before .before .args in
     let l = c .before .before .before .before .loop in
     hit (hasName (a .name .now)) (a .state .now) _ (l .i) (c .before .before .record-of .result .now) (l .inv) (omega arith) (c .before .before .record-of .ensures .0) (sym (c .before .has-name .ensures) ∙ c .if1 .taken)
 
-add-find-length : tie.Need-add-find-length Inv-loop μ-loop
-add-find-length c =
+add-find-like : tie.Need-add-find-like Inv-loop μ-loop
+add-find-like c =
     search needs
 
-find-length-requires-2 : tie.Need-find-length-requires-2 Inv-loop μ-loop
-find-length-requires-2 c κs =
+find-like-requires-2 : tie.Need-find-like-requires-2 Inv-loop μ-loop
+find-like-requires-2 c κs =
     (omega arith, search needs)
 
 loop-less : tie.Need-loop-less Inv-loop μ-loop
 loop-less c =
-    omega (arith, c .find-length2 .ensures)
+    omega (arith, c .find-like2 .ensures)
 
 loop-again : tie.Need-loop-again Inv-loop μ-loop
 loop-again c =
-    let a = c .before .before .before .before .before .before .before .before .before .args in
+    let a = c .before .before .before .before .before .before .before .before .before .before .args in
     let l = c .before .before .before .before .before .loop in
-    leap (a .name .now) (a .state .now) _ (l .i + 1) _
+    leap (a .name .now) (a .state .now) _ (l .i + 1) _ _ (c .before .before .before .before .before .before .before .last-of .ensures)
     (skip (hasName (a .name .now)) (a .state .now) _ (l .i) (c .before .before .before .record-of .result .now) (l .inv) (omega arith) (c .before .before .before .record-of .ensures .0) (sym (c .before .before .has-name .ensures) ∙ c .before .if1 .left))
-    (c .find-length2 .ensures)
+    (c .find-like2 .ensures)
 
 returns-2 : tie.Need-returns-2 Inv-loop μ-loop
 returns-2 c =
-    let a = c .before .before .before .before .before .args in
+    let a = c .before .before .before .before .before .before .args in
     let l = c .before .loop in
     missed (hasName (a .name .now)) (a .state .now) _ (l .i) (a .state .now) (l .inv) (omega arith)
 
@@ -72,13 +76,14 @@ find-name-spec =
     (tie.spec
     Inv-loop
     μ-loop
-    find-length-requires
+    last-of-requires
+    find-like-requires
     loop-holds
     record-of-requires
     has-name-requires
     returns
-    add-find-length
-    find-length-requires-2
+    add-find-like
+    find-like-requires-2
     loop-less
     loop-again
     returns-2)
