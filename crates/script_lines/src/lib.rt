@@ -12,11 +12,9 @@ mod text;
 pub use line::Item;
 pub use line::item_of;
 pub use script::Awaits;
-pub use script::Stepped;
 pub use script::Taken;
 pub use script::finish;
 pub use script::has_ended;
-pub use script::line;
 pub use script::start;
 pub use script::take;
 
