@@ -139,7 +139,12 @@ pub fn has_ended(awaits: Awaits) -> bool
 }
 
 // A line, without its newline. What it prints is written from the first byte of out on.
-pub(crate) fn step(registry: &mut [u8; SIZE], awaits: Awaits, line: &[u8], out: &mut [u8]) -> Stepped
+pub(crate) fn step(
+    registry: &mut [u8; SIZE],
+    awaits: Awaits,
+    line: &[u8],
+    out: &mut [u8],
+) -> Stepped
     requires { ⌜ answerRoom ≤ length (now out) ⌝ }
     ensures { λ r. ⌜ Steps (lineOf (scriptIn awaits (now (registry .entry))) (now (line .entry))) r (now (registry .exit)) (now (out .entry)) (now (out .exit)) ⌝ }
 {

@@ -94,14 +94,16 @@ returns-2 c =
     let k : c .before .before .before .before .get-part2 .result .now ≡ x = c .before .before .before .before .get-part2 .ensures ∙ ap (take (h .result)) l ∙ kept-line line t (a .held) (pre .1) (pre .2) (h .result) n in
     let w = c .before .before .step .ensures in
     let next : end .result + 1 ≡ length p - length (drop (suc (length t)) xs) = omega (arith, end .ensures, length-drop (suc (length t)) xs) in
-    rw (take-line s (take (a .held) line) xs some)
-    (record {
-      script = w .script ∙ ap (λ (y : List ℕ). lineOf s y .script) k;
-      held = refl;
-      next = next;
-      count = w .count ∙ ap (λ (y : List ℕ). length (lineOf s y .bytes)) k;
-      output = w .output ∙ ap (λ (y : List ℕ). written (lineOf s y .bytes) (a .out .now)) k;
-    }, l)
+    rw (take-line s (take (a .held) line) xs some) (
+      record {
+        script = w .script ∙ ap (λ (y : List ℕ). lineOf s y .script) k;
+        held = refl;
+        next = next;
+        count = w .count ∙ ap (λ (y : List ℕ). length (lineOf s y .bytes)) k;
+        output = w .output ∙ ap (λ (y : List ℕ). written (lineOf s y .bytes) (a .out .now)) k;
+      },
+      l,
+    )
 
 pub take-spec : {M : Type 1} → statement M
 take-spec =
