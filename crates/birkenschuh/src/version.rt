@@ -1,0 +1,25 @@
+// What a host compares with its header before it makes a state: a library of another version would
+// write past the end of it.
+ghost use mathlib.Core.Path.{_≡_};
+ghost use Rattle.birkenschuh.specs.Version.{abi, registrySize, endpointSize};
+
+#[no_mangle]
+pub extern "C" fn bks_abi() -> u32
+    ensures { λ r. ⌜ r ≡ abi ⌝ }
+{
+    1
+}
+
+#[no_mangle]
+pub extern "C" fn bks_registry_size() -> usize
+    ensures { λ r. ⌜ r ≡ registrySize ⌝ }
+{
+    25670
+}
+
+#[no_mangle]
+pub extern "C" fn bks_endpoint_size() -> usize
+    ensures { λ r. ⌜ r ≡ endpointSize ⌝ }
+{
+    9004
+}
