@@ -24,7 +24,7 @@ use Rattle.handshake_rules.specs.declared.endpoint.Freed.the-variants.{N
 use Rattle.handshake_rules.specs.declared.accepting.Greeting.the-variants.{NotAllowed, Nok, Alive, Ok}
 use Rattle.handshake_rules.specs.declared.connecting.Reaction.{Reaction}
 use Rattle.handshake_rules.specs.declared.connecting.Reaction.the-variants.{Proceed, Confirm, GiveUp, Unknown}
-use Rattle.handshake_rules.specs.Endpoint.{storedOf, freeSlot, kind, slotAt, put, freed, freeOther, lowest, isSlot, freedAt}
+use Rattle.handshake_rules.specs.Endpoint.{freeSlot, kind, slotAt, put, freed, freeOther, lowest, isSlot, freedAt}
 use Rattle.handshake_rules.specs.Messages.{nameFlags, nameCreation, nameName, statusWord, trueWord, falseWord}
 use Rattle.handshake_rules.specs.Forms.{formTests}
 use Rattle.handshake_rules.specs.Cookie.{Cookies}
@@ -59,7 +59,7 @@ fine-sym x y f e = ⊎-map (λ p. e ∙ p) (⊎-elim (λ p. inr (p .1, p .0)) (�
 apart-put : (g : Endpoint) (s : ℕ) (x : Slot) → Apart g → (kindOf x ≡ 0 → peer x ≡ []) → ((j : ℕ) → (s ≡ j → ⊥) → Fine x (slotAt g j)) → Apart (put g s x)
 apart-put g s x a t f =
     record {
-      many = length-set (g .slots) s (storedOf x) ∙ a .many;
+      many = length-set (g .slots) s x ∙ a .many;
       tidy = λ i. tidy′ i (put-at g s x i);
       fine = λ i j n. fine′ i j n (put-at g s x i) (put-at g s x j);
     }

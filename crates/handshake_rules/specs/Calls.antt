@@ -1,5 +1,5 @@
 -- The calls: making, start, arrive, close and message. Each gives its answer, the endpoint after it and the bytes that it writes.
-use Prim.Native.Nat.{ℕ}
+use Prim.Native.Nat.{ℕ, _≤_}
 use mathlib.Core.Bool.{Bool, true, false, not, _||_}
 use mathlib.Core.List.{List, [], _∷_, _++_}
 use lib.ListN.{length}
@@ -48,6 +48,10 @@ newOf n f c = unless notMade (record { making = Ready; endpoint = fresh n f c })
 -- "Start and message need 300 output bytes"
 abbrev pub room : ℕ
 room = 300
+
+-- a lent output that is long enough
+abbrev pub Roomy : List ℕ → Type 0
+Roomy out = room ≤ length out
 
 -- a refusal that keeps everything
 abbrev pub kept : Endpoint → Refusal → Told

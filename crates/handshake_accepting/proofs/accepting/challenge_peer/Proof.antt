@@ -9,7 +9,7 @@ use Rattle.handshake_rules.specs.declared.endpoint.Stage.the-variants.{AwaitsRe
 use Rattle.wire.proofs.OutputLaws.{overwrite-front}
 use mathlib.Core.Path.{ap, ap₂, _∙_, _≡_}
 use Prim.Native.Nat.{ℕ}
-use Rattle.handshake_state.specs.Lent.{endpointOf, toldIn}
+use Rattle.handshake_state.specs.Bytes.{endpointOf, toldIn}
 use borrow.Author.Needs.{needs}
 use Rattle.handshake_accepting.proofs.accepting.challenge_peer.Statement.{statement}
 use Rattle.handshake_accepting.proofs.accepting.challenge_peer.Tie as tie
@@ -42,15 +42,14 @@ same-length-2 : tie.Need-same-length-2
 same-length-2 c = search needs
 
 returns : tie.Need-returns
-returns c = 
+returns c =
     let a = c .before .before .before .before .before .before .before .before .before .before .before .before .before .before .before .before .before .before .before .args in
     let g = endpointOf (a .state .now) in
     let fl = c .before .before .before .before .before .before .before .before .before .before .before .before .before .own-flags .ensures in
     let cr = c .before .before .before .before .before .before .before .before .before .before .before .own-creation .ensures in
     let nm = c .before .before .before .before .before .before .before .before .before .before .before .before .before .before .before .own-name .ensures in
     let msg : challengeMessage (c .before .before .before .before .before .before .before .before .before .before .before .before .before .own-flags .result) (a .challenge) (c .before .before .before .before .before .before .before .before .before .before .before .own-creation .result) (nameBytes (c .before .before .before .before .before .before .before .before .before .before .before .before .before .before .before .own-name .result)) ≡ challengeOf g (a .challenge) =
-    λ i. challengeMessage (fl i) (a .challenge) (cr i) (nameBytes (nm i)) in
-    (
+    λ i. challengeMessage (fl i) (a .challenge) (cr i) (nameBytes (nm i)) in (
       c .before .before .answer .ensures
           ∙ ap₂ (λ (t : Slot) (n : ℕ). answers g (a .at) t Nothing n)
           (c .before .before .before .before .sent .ensures ∙ ap (λ (s : Slot). sent s AwaitsReply (a .challenge)) (c .before .before .before .before .before .slot .ensures)) (c .before .before .before .before .before .before .before .before .before .send-challenge .ensures .0 ∙ ap length msg),

@@ -13,7 +13,7 @@ use native.Mathlib.Omega.{arith}
 use mathlib.Core.List.{List}
 use mathlib.Core.Path.{_≡_, sym, ap, _∙_}
 use Prim.Native.Nat.{ℕ, _+_, _≤_}
-use Rattle.handshake_state.specs.Lent.{endpointOf, toldIn}
+use Rattle.handshake_state.specs.Bytes.{endpointOf, toldIn}
 use borrow.Author.Needs.{needs}
 use Rattle.handshake_accepting.proofs.accepting.welcome.Statement.{statement}
 use Rattle.handshake_accepting.proofs.accepting.welcome.Tie as tie
@@ -31,12 +31,12 @@ own-creation-requires : tie.Need-own-creation-requires
 own-creation-requires c κs = search needs
 
 send-challenge-requires : tie.Need-send-challenge-requires
-send-challenge-requires c κs = 
+send-challenge-requires c κs =
     let a = c .before .before .before .before .before .before .before .before .before .before .before .before .before .before in
     (omega (arith, c .before .before .before .before .before .before .before .before .before .send-status .ensures .0, status-size (a .args .word .now), a .pre .1), omega (arith, c .before .before .before .before .before .before .before .before .before .send-status .kept, a .pre .2))
 
 add-answer : tie.Need-add-answer
-add-answer c = 
+add-answer c =
     let a = c .before .before .before .before .before .before .before .before .before .before .before .before .before .before .before .before .before .before in
     let h : c .before .before .before .before .before .before .before .before .before .own-name .result .len ≤ 255 = search needs in
     record { fits = omega (arith, c .before .before .before .before .before .before .before .before .before .before .before .before .before .send-status .ensures .0, status-size (a .args .word .now), a .pre .1, c .before .before .before .send-challenge .ensures .0, challenge-size (c .before .before .before .before .before .before .before .own-flags .result) (a .args .challenge) (c .before .before .before .before .before .own-creation .result) (nameBytes (c .before .before .before .before .before .before .before .before .before .own-name .result)), held-short (c .before .before .before .before .before .before .before .before .before .own-name .result) h) }
@@ -51,7 +51,7 @@ same-length-2 : tie.Need-same-length-2
 same-length-2 c = search needs
 
 returns : tie.Need-returns
-returns c = 
+returns c =
     let a = c .before .before .before .before .before .before .before .before .before .before .before .before .before .before .before .before .before .before .before .before .before .args in
     let g = endpointOf (a .state .now) in
     let n = c .before .before .before .before .before .before .before .before .before .before .before .before .before .before .before .before .send-status .result in

@@ -9,7 +9,7 @@ use Rattle.names.specs.Held.{nameBytes}
 use Rattle.wire.proofs.OutputLaws.{written-none}
 use native.Mathlib.Omega.{arith}
 use mathlib.Core.Path.{sym, ap, _∙_}
-use Rattle.handshake_state.specs.Lent.{endpointOf, toldIn}
+use Rattle.handshake_state.specs.Bytes.{endpointOf, toldIn}
 use borrow.Author.Needs.{needs}
 use Rattle.handshake_connecting.proofs.connecting.recv_challenge.Statement.{statement}
 use Rattle.handshake_connecting.proofs.connecting.recv_challenge.Tie as tie
