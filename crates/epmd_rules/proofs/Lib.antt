@@ -1,0 +1,6 @@
+pub mod RequestLaws
+pub mod ReplyLaws
+pub mod ServeLaws
+pub mod Calls
+pub mod Reachable
+pub mod Promises

@@ -1,0 +1,72 @@
+use mathlib.Core.Path.{sym, _∙_}
+use Prim.Native.Nat.{_-_}
+use native.Mathlib.Omega.{arith}
+use borrow.Author.Needs.{needs}
+use Rattle.epmd_rules.specs.Registration.{hasName}
+use Rattle.epmd_rules.specs.Registry.{byName}
+use Rattle.epmd_state.specs.Lent.{places}
+use Rattle.epmd_state.proofs.LentLaws.{Sought, seek, hit, skip, missed}
+use Rattle.epmd_state.proofs.find.find_name.Statement.{statement}
+use Rattle.epmd_state.proofs.find.find_name.Tie as tie
+
+abbrev Inv-loop : tie.InvT-loop
+Inv-loop state name i₀ i = Sought (hasName name) state i
+
+abbrev μ-loop : tie.MeasureT-loop
+μ-loop state name i₀ i = places - i
+
+loop-holds : tie.Need-loop-holds Inv-loop μ-loop
+loop-holds c =
+    let a = c .before .before .args in
+    seek (hasName (a .name .now)) (a .state .now)
+
+record-of-requires : tie.Need-record-of-requires Inv-loop μ-loop
+record-of-requires c κs =
+    (omega arith, search needs)
+
+has-name-requires : tie.Need-has-name-requires Inv-loop μ-loop
+has-name-requires c κs =
+    search needs
+
+returns : tie.Need-returns Inv-loop μ-loop
+unfolding byName
+returns c =
+    let a = c .before .before .before .before .before .before .before .args in
+    let l = c .before .before .before .before .loop in
+    hit (hasName (a .name .now)) (a .state .now) (l .i) (c .before .before .record-of .result .now) (l .inv) (omega arith) (c .before .before .record-of .ensures .0) (sym (c .before .has-name .ensures) ∙ c .if1 .taken)
+
+add-i : tie.Need-add-i Inv-loop μ-loop
+add-i c =
+    search needs
+
+loop-less : tie.Need-loop-less Inv-loop μ-loop
+loop-less c =
+    search needs
+
+loop-again : tie.Need-loop-again Inv-loop μ-loop
+loop-again c =
+    let a = c .before .before .before .before .before .before .before .args in
+    let l = c .before .before .before .before .loop in
+    skip (hasName (a .name .now)) (a .state .now) (l .i) (c .before .before .record-of .result .now) (l .inv) (omega arith) (c .before .before .record-of .ensures .0) (sym (c .before .has-name .ensures) ∙ c .if1 .left)
+
+returns-2 : tie.Need-returns-2 Inv-loop μ-loop
+unfolding byName
+returns-2 c =
+    let a = c .before .before .before .before .args in
+    let l = c .before .loop in
+    missed (hasName (a .name .now)) (a .state .now) (l .i) (a .state .now) (l .inv) (omega arith)
+
+pub find-name-spec : {M : Type 1} → statement M
+find-name-spec =
+    tie.close
+    (tie.spec
+    Inv-loop
+    μ-loop
+    loop-holds
+    record-of-requires
+    has-name-requires
+    returns
+    add-i
+    loop-less
+    loop-again
+    returns-2)
