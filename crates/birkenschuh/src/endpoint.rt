@@ -4,10 +4,11 @@ ghost use lib.ListN.{length};
 ghost use Rattle.handshake_rules.specs.Endpoint.{slotAt};
 ghost use Rattle.handshake_rules.specs.Cookie.{cookies};
 ghost use Rattle.handshake_rules.specs.Calls.{newOf, startOf, arriveOf, closeOf, messageOf};
-ghost use Rattle.handshake_state.specs.Lent.{endpointOf};
+ghost use Rattle.handshake_state.specs.Bytes.{endpointOf};
 ghost use Rattle.birkenschuh.specs.Endpoint.{Makes, Comes, Tells, startedIn, arrivedIn, refusalIn, answeredIn, seenOf, ownOf};
-use crate::numbers::endpoint_making;
+use crate::numbers::making_number;
 use crate::numbers::numbers_of;
+use handshake::SIZE;
 use handshake_rules::endpoint::Slot;
 use names::Name;
 
@@ -55,23 +56,23 @@ pub struct Own {
 
 #[no_mangle]
 pub extern "C" fn bks_endpoint_new(
-    e: &mut [u8; 9004],
+    e: &mut [u8; SIZE],
     name: &[u8],
     flags: u64,
     creation: u32,
 ) -> u32
     ensures { λ r. ⌜ Makes (newOf (now (name .entry)) flags creation) r (now (e .entry)) (now (e .exit)) ⌝ }
 {
-    let making = handshake::lent::make(e, name, flags, creation);
-    endpoint_making(making)
+    let making = handshake::calls::make(e, name, flags, creation);
+    making_number(making)
 }
 
 // Starts towards a full name.
 #[no_mangle]
-pub extern "C" fn bks_endpoint_start(e: &mut [u8; 9004], name: &[u8], out: &mut [u8]) -> Started
+pub extern "C" fn bks_endpoint_start(e: &mut [u8; SIZE], name: &[u8], out: &mut [u8]) -> Started
     ensures { λ r. ⌜ Comes startedIn (startOf (endpointOf (now (e .entry))) (now (name .entry)) (length (now (out .entry)))) r (now (e .exit)) (now (out .entry)) (now (out .exit)) ⌝ }
 {
-    let answer = handshake::lent::start(e, name, out);
+    let answer = handshake::calls::start(e, name, out);
     let n = numbers_of(answer);
     Started {
         refusal: n.refusal,
@@ -82,10 +83,10 @@ pub extern "C" fn bks_endpoint_start(e: &mut [u8; 9004], name: &[u8], out: &mut 
 
 // A connection has come in.
 #[no_mangle]
-pub extern "C" fn bks_endpoint_arrive(e: &mut [u8; 9004]) -> Arrived
+pub extern "C" fn bks_endpoint_arrive(e: &mut [u8; SIZE]) -> Arrived
     ensures { λ r. ⌜ Tells arrivedIn (arriveOf (endpointOf (now (e .entry)))) r (now (e .exit)) ⌝ }
 {
-    let answer = handshake::lent::arrive(e);
+    let answer = handshake::calls::arrive(e);
     let n = numbers_of(answer);
     Arrived {
         refusal: n.refusal,
@@ -95,10 +96,10 @@ pub extern "C" fn bks_endpoint_arrive(e: &mut [u8; 9004]) -> Arrived
 
 // Frees a taken slot.
 #[no_mangle]
-pub extern "C" fn bks_endpoint_close(e: &mut [u8; 9004], slot: u32) -> u32
+pub extern "C" fn bks_endpoint_close(e: &mut [u8; SIZE], slot: u32) -> u32
     ensures { λ r. ⌜ Tells refusalIn (closeOf (endpointOf (now (e .entry))) slot) r (now (e .exit)) ⌝ }
 {
-    let answer = handshake::lent::close(e, slot as usize);
+    let answer = handshake::calls::close(e, slot as usize);
     let n = numbers_of(answer);
     n.refusal
 }
@@ -106,7 +107,7 @@ pub extern "C" fn bks_endpoint_close(e: &mut [u8; 9004], slot: u32) -> u32
 // One frame on a slot.
 #[no_mangle]
 pub extern "C" fn bks_endpoint_message<'a>(
-    e: &mut [u8; 9004],
+    e: &mut [u8; SIZE],
     slot: u32,
     frame: &[u8],
     challenge: u32,
@@ -116,7 +117,7 @@ pub extern "C" fn bks_endpoint_message<'a>(
 ) -> Answered
     ensures { λ r. ⌜ Comes answeredIn (messageOf (cookies (now (own .entry)) (now (standard .entry))) (endpointOf (now (e .entry))) slot (now (frame .entry)) challenge (length (now (out .entry)))) r (now (e .exit)) (now (out .entry)) (now (out .exit)) ⌝ }
 {
-    let answer = handshake::lent::message(e, slot as usize, frame, challenge, own, standard, out);
+    let answer = handshake::calls::message(e, slot as usize, frame, challenge, own, standard, out);
     let n = numbers_of(answer);
     Answered {
         refusal: n.refusal,
@@ -144,10 +145,10 @@ fn seen(s: Slot) -> SlotSeen
 
 // A slot's record; from 32 on that of a free one.
 #[no_mangle]
-pub extern "C" fn bks_endpoint_slot(e: &[u8; 9004], slot: u32) -> SlotSeen
+pub extern "C" fn bks_endpoint_slot(e: &[u8; SIZE], slot: u32) -> SlotSeen
     ensures { λ r. ⌜ r ≡ seenOf (slotAt (endpointOf (now (e .entry))) slot) ⌝ }
 {
-    seen(handshake::lent::slot(e, slot as usize))
+    seen(handshake::calls::slot(e, slot as usize))
 }
 
 fn own_seen(name: Name, flags: u64, creation: u32) -> Own
@@ -163,11 +164,11 @@ fn own_seen(name: Name, flags: u64, creation: u32) -> Own
 
 // The endpoint's own name, flags and creation.
 #[no_mangle]
-pub extern "C" fn bks_endpoint_own(e: &[u8; 9004]) -> Own
+pub extern "C" fn bks_endpoint_own(e: &[u8; SIZE]) -> Own
     ensures { λ r. ⌜ r ≡ ownOf (endpointOf (now (e .entry)) .name) (endpointOf (now (e .entry)) .flags) (endpointOf (now (e .entry)) .creation) ⌝ }
 {
-    let name = handshake_state::lent::own_name(e);
-    let flags = handshake_state::lent::own_flags(e);
-    let creation = handshake_state::lent::own_creation(e);
+    let name = handshake::calls::own_name(e);
+    let flags = handshake::calls::own_flags(e);
+    let creation = handshake::calls::own_creation(e);
     own_seen(name, flags, creation)
 }

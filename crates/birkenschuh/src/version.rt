@@ -1,7 +1,9 @@
 // What a host compares with its header before it makes a state: a library of another version would
 // write past the end of it.
 ghost use mathlib.Core.Path.{_≡_};
-ghost use Rattle.birkenschuh.specs.Version.{abi, registrySize, endpointSize};
+ghost use Rattle.epmd_state.specs.Lent.{size};
+ghost use Rattle.handshake_state.specs.Bytes.{stateSize};
+ghost use Rattle.birkenschuh.specs.Version.{abi};
 
 #[no_mangle]
 pub extern "C" fn bks_abi() -> u32
@@ -12,14 +14,14 @@ pub extern "C" fn bks_abi() -> u32
 
 #[no_mangle]
 pub extern "C" fn bks_registry_size() -> usize
-    ensures { λ r. ⌜ r ≡ registrySize ⌝ }
+    ensures { λ r. ⌜ r ≡ size ⌝ }
 {
-    25670
+    epmd_state::layout::SIZE
 }
 
 #[no_mangle]
 pub extern "C" fn bks_endpoint_size() -> usize
-    ensures { λ r. ⌜ r ≡ endpointSize ⌝ }
+    ensures { λ r. ⌜ r ≡ stateSize ⌝ }
 {
-    9004
+    handshake_state::SIZE
 }

@@ -1,6 +1,6 @@
 use mathlib.Core.Path.{_∙_, ap}
 use Rattle.handshake_rules.specs.State.{Told}
-use Rattle.birkenschuh.specs.Endpoint.{answeredIn, numbersOf}
+use Rattle.birkenschuh.specs.Endpoint.{answeredIn, toldOf}
 use borrow.Author.Needs.{needs}
 use Rattle.birkenschuh.proofs.endpoint.bks_endpoint_message.Statement.{statement}
 use Rattle.birkenschuh.proofs.endpoint.bks_endpoint_message.Tie as tie
@@ -15,7 +15,7 @@ same-length : tie.Need-same-length
 same-length c = search needs
 
 returns : tie.Need-returns
-returns c = (ap answeredIn (c .numbers-of .ensures ∙ ap (λ (t : Told). numbersOf (t .answer)) (c .before .before .before .message .ensures .0)), ap (λ (t : Told). t .endpoint) (c .before .before .before .message .ensures .0), c .before .before .before .message .ensures .1)
+returns c = record { told = ap answeredIn (c .numbers-of .ensures ∙ ap (λ (t : Told). toldOf (t .answer)) (c .before .before .before .message .ensures .0)); endpoint = ap (λ (t : Told). t .endpoint) (c .before .before .before .message .ensures .0); output = c .before .before .before .message .ensures .1 }
 
 pub bks-endpoint-message-spec : {M : Type 1} → statement M
 bks-endpoint-message-spec =

@@ -15,7 +15,7 @@ own-seen-requires : tie.Need-own-seen-requires
 own-seen-requires c κs = search needs
 
 returns : tie.Need-returns
-returns c = rw (c .own-seen .ensures, c .before .own-creation .ensures, c .before .before .before .own-flags .ensures, c .before .before .before .before .before .own-name .ensures)
+returns c = rw (c .own-seen .ensures, c .before .own-creation .ensures, c .before .before .own-flags .ensures, c .before .before .before .own-name .ensures)
 
 pub bks-endpoint-own-spec : {M : Type 1} → statement M
 bks-endpoint-own-spec =

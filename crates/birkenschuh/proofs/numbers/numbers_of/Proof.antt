@@ -1,6 +1,8 @@
-use Rattle.birkenschuh.specs.Endpoint.{tells, answers, flag, numbersOf}
-use mathlib.Core.Path.{sym, _∙_, ap, ap₂}
 use Prim.Native.Nat.{ℕ}
+use mathlib.Core.Path.{sym, _∙_, ap, ap₂}
+use mathlib.Core.Bool.{Bool}
+use Rattle.handshake_rules.specs.Answers.{tells, noSlot}
+use Rattle.birkenschuh.specs.Endpoint.{crossing, answers, toldOf}
 use borrow.Author.Needs.{needs}
 use Rattle.birkenschuh.proofs.numbers.numbers_of.Statement.{statement}
 use Rattle.birkenschuh.proofs.numbers.numbers_of.Tie as tie
@@ -17,26 +19,17 @@ cast-tell c = search needs
 frees-requires : tie.Need-frees-requires
 frees-requires c κs = search needs
 
-flag-requires : tie.Need-flag-requires
-flag-requires c κs = search needs
-
 tell-requires : tie.Need-tell-requires
 tell-requires c κs = search needs
 
 enum-known-a-2 : tie.Need-enum-known-a-2
 enum-known-a-2 c = search needs
 
-slot-number-requires : tie.Need-slot-number-requires
-slot-number-requires c κs = search needs
-
 tell-requires-2 : tie.Need-tell-requires-2
 tell-requires-2 c κs = search needs
 
 enum-known-a-3 : tie.Need-enum-known-a-3
 enum-known-a-3 c = search needs
-
-slot-number-requires-2 : tie.Need-slot-number-requires-2
-slot-number-requires-2 c κs = search needs
 
 tell-requires-3 : tie.Need-tell-requires-3
 tell-requires-3 c κs = search needs
@@ -60,30 +53,28 @@ answered-requires : tie.Need-answered-requires
 answered-requires c κs = search needs
 
 returns : tie.Need-returns
-unfolding numbersOf
+unfolding toldOf
 returns c =
-    c .tell .ensures ∙ ap₂ (λ (n e : ℕ). tells n 0 0 32 e 0) (c .before .before .before .number .ensures) (c .before .flag .ensures ∙ ap flag (c .before .before .frees .ensures))
-    ∙ sym (ap numbersOf (c .before .before .before .before .before .a .given .1))
+    c .tell .ensures ∙ ap₂ (λ (n : ℕ) (b : Bool). crossing (tells n 0 0 noSlot 0) b) (c .before .before .number .ensures) (c .before .frees .ensures)
+    ∙ sym (ap toldOf (c .before .before .before .before .a .given .1))
 
 returns-2 : tie.Need-returns-2
-unfolding numbersOf
-returns-2 c =
-    c .tell2 .ensures ∙ ap (λ (s : ℕ). tells 0 0 s 32 0 (c .before .before .before .a2 .given .0 .1 .0)) (c .before .slot-number .ensures)
-    ∙ sym (ap numbersOf (c .before .before .before .a2 .given .1))
+unfolding toldOf
+returns-2 c = c .tell2 .ensures ∙ sym (ap toldOf (c .before .before .a2 .given .1))
 
 returns-3 : tie.Need-returns-3
-unfolding numbersOf
-returns-3 c = c .tell3 .ensures ∙ ap (λ (s : ℕ). tells 0 0 s 32 0 0) (c .before .slot-number2 .ensures) ∙ sym (ap numbersOf (c .before .before .before .a3 .given .1))
+unfolding toldOf
+returns-3 c = c .tell3 .ensures ∙ sym (ap toldOf (c .before .before .a3 .given .1))
 
 returns-4 : tie.Need-returns-4
-unfolding numbersOf
-returns-4 c = c .tell4 .ensures ∙ sym (ap numbersOf (c .before .enum-told .given .1))
+unfolding toldOf
+returns-4 c = c .tell4 .ensures ∙ sym (ap toldOf (c .before .enum-told .given .1))
 
 returns-5 : tie.Need-returns-5
-unfolding numbersOf
+unfolding toldOf
 returns-5 c =
     c .answered .ensures ∙ ap (λ (s : ℕ). answers s (c .before .before .before .a4 .given .0 .1 .0) (c .before .before .before .a4 .given .0 .1 .1 .0)) (c .before .number2 .ensures)
-    ∙ sym (ap numbersOf (c .before .before .before .a4 .given .1))
+    ∙ sym (ap toldOf (c .before .before .before .a4 .given .1))
 
 pub numbers-of-spec : {M : Type 1} → statement M
 numbers-of-spec =
@@ -93,13 +84,10 @@ numbers-of-spec =
     number-requires
     cast-tell
     frees-requires
-    flag-requires
     tell-requires
     enum-known-a-2
-    slot-number-requires
     tell-requires-2
     enum-known-a-3
-    slot-number-requires-2
     tell-requires-3
     enum-told
     tell-requires-4
