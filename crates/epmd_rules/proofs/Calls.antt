@@ -4,12 +4,12 @@ use mathlib.Core.Path.{_≡_, refl, sym, ap, _∙_}
 use mathlib.Core.Bool.{Bool, true, false, cond}
 use mathlib.Core.List.{List, [], _∷_}
 use native.Mathlib.Omega.{arith}
-use borrow.Author.Tests.{eqb-true, eqb-false, lt-ltb, ltb-true}
+use borrow.Author.Tests.{ne-eqb, eqb-true, eqb-false, lt-ltb, ltb-true}
 use lib.Dec.{eqb, ltb}
 use lib.ListN.{length, getD, set, length-set}
 use lib.Seq.{getD-set-same, getD-set-other}
 use Rattle.wire.specs.Frame.{body}
-use Rattle.wire.specs.Layout.{runAt}
+use Rattle.wire.specs.Layout.{intAt, runAt}
 use Rattle.wire.proofs.LookupLaws.{first-passes, first-before, first-is}
 use Rattle.names.specs.Held.{nameOf, nameBytes}
 use Rattle.epmd_rules.specs.declared.registration.Registration.{Registration}
@@ -20,12 +20,37 @@ use Rattle.epmd_rules.specs.Messages.{alive2Req}
 use Rattle.epmd_rules.specs.Registration.{free, isFree}
 use Rattle.epmd_rules.specs.Registry.{entryAt, byConnection, lowestFree, stepped, filled, closeOf}
 use Rattle.epmd_rules.specs.Requests.{examineOf}
-use Rattle.epmd_rules.specs.Serve.{resultOf, registrationOf, alive2Of, port2Of, namesOf, requestOf, outcomeOf}
-use Rattle.epmd_rules.specs.Claims.{RefusalKeeps, FailureKeeps, CreationWraps, TakenKept, FreedNext}
+use Rattle.epmd_rules.specs.Replies.{alive2Reply}
+use Rattle.epmd_rules.specs.Serve.{Outcome, replied, resultOf, registrationOf, alive2Of, port2Of, namesOf, requestOf, outcomeOf}
+use Rattle.epmd_rules.specs.Claims.{Keeps, RefusalKeeps, FailureKeeps, CreationWraps, TakenKept, FreedNext}
 use Rattle.epmd_rules.proofs.ServeLaws.{call-asked, alive2-fails, alive2-fills, result-free}
 
+-- ---- what a call tells
+
+replied-keeps : (r s : Registry) (bs : List ℕ) → Keeps r (replied s bs)
+replied-keeps r s bs = record { count = refl; kept = λ h. absurd (h refl) }
+
+either : (r : Registry) (t : Bool) (o p : Outcome) → Keeps r o → Keeps r p → Keeps r (cond t o p)
+either r true o p g h = g
+either r false o p g h = h
+
+alive2-keeps : (r : Registry) (c : ℕ) (b : List ℕ) → Keeps r (alive2Of r c b)
+unfolding alive2Of
+alive2-keeps r c b =
+    let k = resultOf r c (runAt alive2Req 6 b) in
+    let h = intAt alive2Req 4 b in
+    either r (eqb k 0) _ _ (replied-keeps r (filled r (registrationOf c (r .next) b)) (alive2Reply h 0 (r .next))) (replied-keeps r r (alive2Reply h k 0))
+
+outcome-keeps : (r : Registry) (c : ℕ) (b : List ℕ) (q : Request) → Keeps r (outcomeOf r c b q)
+unfolding port2Of namesOf
+outcome-keeps r c b (Refused n) = record { count = refl; kept = λ h. (refl, refl) }
+outcome-keeps r c b Alive2 = alive2-keeps r c b
+outcome-keeps r c b PortPlease2 = replied-keeps r r _
+outcome-keeps r c b Names = replied-keeps r r _
+
 pub refusal-keeps : RefusalKeeps
-refusal-keeps r c frame given n e = rw (call-asked r c frame given (Refused n) e) (refl, refl)
+unfolding requestOf
+refusal-keeps r c frame given = outcome-keeps r c (body frame) (examineOf frame given)
 
 pub failure-keeps : FailureKeeps
 failure-keeps r c frame given e h =
@@ -42,7 +67,7 @@ step-within c l h = by (eqb c 4294967295) refl where
 
 pub creation-wraps : CreationWraps
 unfolding stepped
-creation-wraps = (refl, step-within)
+creation-wraps = (refl, λ c h. rw (ne-eqb c 4294967295 (λ (e : c ≡ 4294967295). omega arith)), step-within)
 
 -- ---- places after a call
 

@@ -1,5 +1,5 @@
 -- Theorems of every registry that making and calls can give (specs/Claims). Assumes nothing.
-use Prim.Native.Nat.{ℕ, zero, suc, _+_, _*_, _^_, _≤_, _<_}
+use Prim.Native.Nat.{ℕ, zero, suc, _+_, _-_, _*_, _^_, _≤_, _<_}
 use mathlib.Core.Path.{_≡_, refl, sym, ap, subst, _∙_}
 use mathlib.Core.Bool.{Bool, true, false, cond, _&&_, not}
 use mathlib.Core.List.{List, [], _∷_, _++_}
@@ -7,7 +7,7 @@ use native.Mathlib.Omega.{arith}
 use borrow.Author.Tests.{eq-eqb, ne-eqb, eqb-true, eqb-false, lt-ltb, ltb-true, ltb-false, leb-true}
 use lib.Dec.{eqb, ltb, leb}
 use lib.ListN.{length, getD, set, replicate, length-set, length-replicate, getD-replicate, length-append}
-use lib.Seq.{getD-set-same, getD-set-other}
+use lib.Seq.{getD-set-same, getD-set-other, take-at}
 use Rattle.wire.specs.Claims.{Octets}
 use Rattle.wire.specs.Run.{sameBytes}
 use Rattle.wire.specs.Frame.{body}
@@ -16,6 +16,7 @@ use Rattle.wire.proofs.RunLaws.{same-decides}
 use Rattle.wire.proofs.NumberLaws.{octets-drop, beAt-fits}
 use Rattle.wire.proofs.LookupLaws.{first-passes, first-before, first-is}
 use Rattle.names.specs.Held.{nameOf, nameBytes}
+use Rattle.names.specs.Node.{nodeName}
 use Rattle.names.proofs.HeldLaws.{name-back}
 use Rattle.epmd_rules.specs.declared.registration.Registration.{Registration}
 use Rattle.epmd_rules.specs.State.{Registry}
@@ -23,14 +24,14 @@ use Rattle.epmd_rules.specs.declared.answer.Making.the-variants.{Ready, 
 use Rattle.epmd_rules.specs.declared.refusal.Refusal.the-variants.{ZeroCreation}
 use Rattle.epmd_rules.specs.declared.request.Request.the-variants.{Alive2}
 use Rattle.epmd_rules.specs.Messages.{alive2Req}
-use Rattle.epmd_rules.specs.Registration.{free, isFree, hasName, hasConnection}
+use Rattle.epmd_rules.specs.Registration.{free, isFree, extraOf, extraBytes, hasName, hasConnection}
 use Rattle.epmd_rules.specs.Registry.{fresh, newOf, entryAt, byName, byConnection, lowestFree, stepped, filled, closeOf}
 use Rattle.epmd_rules.specs.Requests.{lineRoom, examineOf}
 use Rattle.epmd_rules.specs.Replies.{port2Found, port2Reply, nameLines, lineOf, namesReply}
 use Rattle.epmd_rules.specs.Serve.{Outcome, resultOf, registrationOf, requestOf}
 use Rattle.epmd_rules.specs.Claims.{Reachable, made, requested, closed, PlaceSound, RegistrySound, AlwaysSound, RegisteredFound, NamesFit}
 use Rattle.epmd_rules.proofs.Calls.{step-within, After, same, more, after-request, filled-here, filled-other, lowest-is-free, Afterwards, none-freed, one-freed, after-close, without, free-is-free}
-use Rattle.epmd_rules.proofs.RequestLaws.{alive2-body, alive2-name-some}
+use Rattle.epmd_rules.proofs.RequestLaws.{alive2-body, alive2-name-some, alive2-named}
 use Rattle.epmd_rules.proofs.ReplyLaws.{line-within}
 use Rattle.epmd_rules.proofs.ServeLaws.{call-asked, alive2-fills, result-free}
 
@@ -78,12 +79,32 @@ free-port : free .port ≤ 65535
 unfolding free
 free-port = omega arith
 
+extra-back : (bs : List ℕ) → extraBytes (extraOf bs) ≡ bs
+unfolding extraOf extraBytes
+extra-back bs = take-at bs (replicate (128 - length bs) 0) (length bs) refl
+
+free-named : free .name ≡ nameOf (nameBytes (free .name))
+unfolding free
+free-named = ap nameOf (sym (name-back []))
+
+free-extra : length (extraBytes (free .extra)) ≤ 128
+unfolding free
+free-extra = omega (arith, ap length (extra-back []))
+
+free-padded : free .extra ≡ extraOf (extraBytes (free .extra))
+unfolding free
+free-padded = ap extraOf (sym (extra-back []))
+
 place-free : PlaceSound free
 place-free =
     record {
       zero-if-free = λ e. refl;
       created = λ e. let w : _≡_ {A = ℕ} 0 1 = cc free-is-free in absurd (omega arith);
+      named = λ e. let w : _≡_ {A = ℕ} 0 1 = cc free-is-free in absurd (omega arith);
       name-held = free-name;
+      name-padded = free-named;
+      extra-held = free-extra;
+      extra-padded = free-padded;
       port-held = free-port;
     }
 
@@ -99,14 +120,19 @@ fresh-places : (port next : ℕ) → length (fresh port next .registrations) ≡
 unfolding fresh
 fresh-places port next = length-replicate 64 free
 
+fresh-port : (port next : ℕ) → fresh port next .port ≡ port
+unfolding fresh
+fresh-port port next = refl
+
 fresh-next : (port next : ℕ) → fresh port next .next ≡ next
 unfolding fresh
 fresh-next port next = refl
 
-fresh-sound : (port next : ℕ) → 1 ≤ next → next ≤ 4294967295 → RegistrySound (fresh port next)
-fresh-sound port next l h =
+fresh-sound : (port next : ℕ) → port ≤ 65535 → 1 ≤ next → next ≤ 4294967295 → RegistrySound (fresh port next)
+fresh-sound port next o l h =
     record {
       places = fresh-places port next;
+      own-port-held = omega (arith, fresh-port port next);
       next-some = omega (arith, fresh-next port next);
       next-held = omega (arith, fresh-next port next);
       each = λ i m. subst PlaceSound (sym (fresh-entry port next i m)) place-free;
@@ -139,6 +165,18 @@ module _ (r : Registry) (c : ℕ) (frame : List ℕ) (given : ℕ) (a : examineO
   new-name-held : length (nameBytes (new .name)) ≤ 255
   new-name-held = omega (arith, ap length new-name, alive2-body frame given a .name)
 
+  new-padded : new .name ≡ nameOf (nameBytes (new .name))
+  unfolding new registrationOf
+  new-padded = ap nameOf (sym (name-back (runAt alive2Req 6 (body frame))))
+
+  new-extra : extraBytes (new .extra) ≡ runAt alive2Req 7 (body frame)
+  unfolding new registrationOf
+  new-extra = extra-back (runAt alive2Req 7 (body frame))
+
+  new-extra-padded : new .extra ≡ extraOf (extraBytes (new .extra))
+  unfolding new registrationOf
+  new-extra-padded = ap extraOf (sym (extra-back (runAt alive2Req 7 (body frame))))
+
   new-port-held : Octets frame → new .port ≤ 65535
   unfolding new registrationOf body
   new-port-held o =
@@ -158,7 +196,11 @@ module _ (r : Registry) (c : ℕ) (frame : List ℕ) (given : ℕ) (a : examineO
       record {
         zero-if-free = λ e. let w : _≡_ {A = ℕ} 0 1 = cc new-taken in absurd (omega arith);
         created = λ e. (omega (arith, new-creation), omega (arith, new-creation));
+        named = λ e. ap nodeName new-name ∙ alive2-named frame given a;
         name-held = new-name-held;
+        name-padded = new-padded;
+        extra-held = omega (arith, ap length new-extra, alive2-body frame given a .extra);
+        extra-padded = new-extra-padded;
         port-held = new-port-held o;
       }
 
@@ -220,6 +262,10 @@ module _ (r : Registry) (c : ℕ) (frame : List ℕ) (given : ℕ) (a : examineO
     unfolding filled
     filled-places = length-set (r .registrations) (lowestFree r) new ∙ s .places
 
+    filled-port : filled r new .port ≡ r .port
+    unfolding filled
+    filled-port = refl
+
     filled-next : filled r new .next ≡ stepped (r .next)
     unfolding filled
     filled-next = refl
@@ -229,6 +275,7 @@ module _ (r : Registry) (c : ℕ) (frame : List ℕ) (given : ℕ) (a : examineO
         let n = step-within (r .next) (s .next-some) (s .next-held) in
         record {
           places = filled-places;
+          own-port-held = omega (arith, filled-port, s .own-port-held);
           next-some = omega (arith, filled-next, n .0);
           next-held = omega (arith, filled-next, n .1);
           each = filled-each o;
@@ -282,6 +329,7 @@ module _ (r : Registry) (k : ℕ) (h : k < 64) (s : RegistrySound r) where
   without-sound =
       record {
         places = length-set (r .registrations) k free ∙ s .places;
+        own-port-held = s .own-port-held;
         next-some = s .next-some;
         next-held = s .next-held;
         each = without-each;
@@ -299,13 +347,13 @@ new-made : (port first : ℕ) → (first ≡ 0 → ⊥) → newOf port first .re
 unfolding newOf
 new-made port first e = rw (ne-eqb first 0 e)
 
-sound-made : (port first : ℕ) → first ≤ 4294967295 → newOf port first .making ≡ Ready → RegistrySound (newOf port first .registry)
-sound-made port first h e =
+sound-made : (port first : ℕ) → port ≤ 65535 → first ≤ 4294967295 → newOf port first .making ≡ Ready → RegistrySound (newOf port first .registry)
+sound-made port first o h e =
     let some : first ≡ 0 → ⊥ = λ (z : first ≡ 0). (let w : _≡_ {A = ℕ} 0 1 = cc (new-refused port first z) in absurd (omega arith)) in
-    subst RegistrySound (sym (new-made port first some)) (fresh-sound port first (omega (arith, some)) h)
+    subst RegistrySound (sym (new-made port first some)) (fresh-sound port first o (omega (arith, some)) h)
 
 pub always-sound : AlwaysSound
-always-sound _ (made port first p h e) = sound-made port first h e
+always-sound _ (made port first p h e) = sound-made port first p h e
 always-sound _ (requested r c frame given o reach) = by (always-sound r reach) (after-request r c frame given) where
   by : {s : Registry} → RegistrySound r → After r c frame given s → RegistrySound s
   by sound (same e) = subst RegistrySound (sym e) sound

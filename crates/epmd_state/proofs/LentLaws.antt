@@ -1,30 +1,31 @@
 -- Laws of a registry that lies in bytes: a registration is read where it lies, and overwriting it changes it alone. Assumes nothing.
-use Prim.Native.Nat.{ℕ, zero, suc, _+_, _*_, _^_, _≤_, _<_}
+use Prim.Native.Nat.{ℕ, zero, suc, _+_, _-_, _*_, _^_, _≤_, _<_}
 use mathlib.Core.Path.{_≡_, refl, sym, _∙_, ap, ap₂}
-use mathlib.Core.Bool.{Bool, true, false, _&&_, not}
+use mathlib.Core.Bool.{Bool, true, false, cond, _&&_, not}
 use mathlib.Core.List.{List, [], _∷_, _++_, append-nil, append-assoc}
 use native.Mathlib.Omega.{arith}
-use borrow.Author.Tests.{eq-eqb, ne-eqb}
-use lib.ListN.{length, length-append, getD, set, take, drop, replicate}
-use lib.Seq.{length-take-le, take-all}
+use borrow.Author.Tests.{eq-eqb, ne-eqb, eqb-false}
+use lib.Dec.{eqb}
+use lib.ListN.{length, length-append, length-drop, getD, set, take, drop, replicate}
+use lib.Seq.{length-take-le, take-all, drop-drop}
 use Rattle.wire.specs.Run.{part, sameBytes}
 use Rattle.wire.specs.Number.{be, num, beAt}
 use Rattle.wire.specs.Output.{overwrite}
 use Rattle.wire.specs.Table.{table}
 use Rattle.wire.specs.Lookup.{firstAt}
 use Rattle.wire.specs.Layout.{Value, int, encode, decode, intOf, Fits}
-use Rattle.wire.proofs.NumberLaws.{be-length}
+use Rattle.wire.proofs.NumberLaws.{be-length, beAt-byte}
 use Rattle.wire.proofs.LayoutLaws.{layout-back, beAt-behind}
-use Rattle.wire.proofs.LookupLaws.{first-skip, first-hit, first-end}
+use Rattle.wire.proofs.LookupLaws.{first-skip, first-hit, first-end, first-within}
 use Rattle.wire.proofs.OutputLaws.{overwrite-join}
 use Rattle.wire.proofs.TableLaws.{take-within, part-before, table-count, table-at, table-after, table-set, table-zeros}
-use Rattle.wire.proofs.RunLaws.{part-length, same-length-ne}
+use Rattle.wire.proofs.RunLaws.{part-length, same-length-ne, same-false}
 use Rattle.names.specs.Held.{nameOf, nameBytes}
 use Rattle.epmd_rules.specs.State.{Registry}
 use Rattle.epmd_rules.specs.declared.registration.Registration.{Registration}
 use Rattle.epmd_rules.specs.Registration.{free, isFree, hasName, extraOf, extraBytes}
 use Rattle.epmd_rules.specs.Registry.{entryAt}
-use Rattle.epmd_state.specs.Lent.{headL, tailL, entryL, places, headSize, entrySize, size, tailValues, entryValues, entryBytes, entryFrom, entryBy, registryOf, placed, headed}
+use Rattle.epmd_state.specs.Lent.{headL, tailL, entryL, places, headSize, entrySize, size, tailValues, entryValues, entryBytes, entryFrom, entryBy, registryOf, placed, headed, lastOf, isLike}
 
 abbrev entries : List ℕ → List Registration
 entries b = table entryBy entrySize places headSize b
@@ -135,6 +136,25 @@ pub name-here : (b : List ℕ) (n : ℕ) → n ≡ beAt 1 0 b → n ≤ 255 → 
 unfolding entryBy nameBytes
 name-here b n e h = ap (λ (k : ℕ). take k (part 1 255 b)) (sym e) ∙ text-here 1 255 n b h
 
+none-last : (b : List ℕ) → lastOf (part 1 0 b) ≡ 0
+unfolding part
+none-last b = refl
+
+getD-front : (l : List ℕ) (n : ℕ) → getD (take (suc n) l) n 0 ≡ getD l n 0
+getD-front [] n = refl
+getD-front (x ∷ l) zero = refl
+getD-front (x ∷ l) (suc n) = getD-front l n
+
+getD-behind : (l : List ℕ) (n : ℕ) → getD (drop 1 l) n 0 ≡ getD l (suc n) 0
+getD-behind [] n = refl
+getD-behind (x ∷ l) n = refl
+
+part-last : (b : List ℕ) (n : ℕ) → getD (part 1 (suc n) b) (suc n - 1) 0 ≡ getD b (suc n) 0
+unfolding part
+part-last b n =
+    let k : suc n - 1 ≡ n = omega arith in
+    ap (λ (j : ℕ). getD (take (suc n) (drop 1 b)) j 0) k ∙ getD-front (drop 1 b) n ∙ getD-behind b n
+
 pub extra-here : (b : List ℕ) (n : ℕ) → n ≡ beAt 1 256 b → n ≤ 128 → extraBytes (entryBy b .extra) ≡ part 257 n b
 unfolding entryBy extraBytes
 extra-here b n e h = ap (λ (k : ℕ). take k (part 257 128 b)) (sym e) ∙ text-here 257 128 n b h
@@ -156,6 +176,11 @@ module _ (name : List ℕ) (p : Registration) where
   unfolding hasName
   other-length h = sym (ap (λ (t : Bool). not (isFree p) && t) (same-length-ne (nameBytes (p .name)) name h) ∙ and-false (not (isFree p)))
 
+  pub other-last : (lastOf (nameBytes (p .name)) ≡ lastOf name → ⊥) → false ≡ hasName name p
+  unfolding hasName
+  other-last h =
+      sym (ap (λ (t : Bool). not (isFree p) && t) (same-false (nameBytes (p .name)) name (λ e. h (ap lastOf e))) ∙ and-false (not (isFree p)))
+
   pub none-held : length (nameBytes (p .name)) ≡ 0 → false ≡ hasName name p
   unfolding hasName isFree
   none-held h = rw (eq-eqb (length (nameBytes (p .name))) 0 h)
@@ -164,31 +189,81 @@ module _ (name : List ℕ) (p : Registration) where
   unfolding hasName isFree
   by-bytes h = rw (ne-eqb (length (nameBytes (p .name))) 0 h)
 
--- ---- look-up: what is known before place i, over any test
+-- ---- look-up: what is known before place i, over any test; t is what is sought
 
-pub record Sought (p : Registration → Bool) (b : List ℕ) (i : ℕ) : Type 0 where
+abbrev left : (b : List ℕ) (i : ℕ) → List Registration
+left b i = drop i (registryOf b .registrations)
+
+pub record Sought (p : Registration → Bool) (b : List ℕ) (t i : ℕ) : Type 0 where
   pub within : i ≤ places
-  pub passed : firstAt p (registryOf b .registrations) ≡ i + firstAt p (drop i (registryOf b .registrations))
+  pub passed : t ≡ i + firstAt p (left b i)
 
-pub seek : (p : Registration → Bool) (b : List ℕ) → Sought p b 0
-seek p b = record { within = omega arith; passed = omega arith }
+pub seek : (p : Registration → Bool) (b : List ℕ) (i : ℕ) → i ≤ places → Sought p b (i + firstAt p (left b i)) i
+seek p b i h = record { within = h; passed = refl }
 
-module _ (p : Registration → Bool) (b : List ℕ) (i : ℕ) (r : List ℕ) (s : Sought p b i) where
+pub seek-all : (p : Registration → Bool) (b : List ℕ) → Sought p b (firstAt p (registryOf b .registrations)) 0
+seek-all p b = record { within = omega arith; passed = omega arith }
+
+module _ (p : Registration → Bool) (b : List ℕ) (t i : ℕ) (r : List ℕ) (s : Sought p b t i) where
   module _ (h : i < places) (here : entryBy r ≡ entryAt (registryOf b) i) where
-    pub hit : p (entryBy r) ≡ true → i ≡ firstAt p (registryOf b .registrations)
+    pub hit : p (entryBy r) ≡ true → i ≡ t
     unfolding entryAt
-    hit t = omega (arith, s .passed, first-hit p (registryOf b .registrations) i free (omega (arith, here-long b)) (ap p (sym here) ∙ t))
+    hit e = omega (arith, s .passed, first-hit p (registryOf b .registrations) i free (omega (arith, here-long b)) (ap p (sym here) ∙ e))
 
-    pub skip : p (entryBy r) ≡ false → Sought p b (i + 1)
+    pub skip : p (entryBy r) ≡ false → Sought p b t (i + 1)
     unfolding entryAt
-    skip t =
+    skip e =
         record {
           within = omega arith;
-          passed = omega (arith, s .passed, first-skip p (registryOf b .registrations) i free (omega (arith, here-long b)) (ap p (sym here) ∙ t));
+          passed = omega (arith, s .passed, first-skip p (registryOf b .registrations) i free (omega (arith, here-long b)) (ap p (sym here) ∙ e));
         }
 
-  pub missed : places ≤ i → i ≡ firstAt p (registryOf b .registrations)
+  pub missed : places ≤ i → i ≡ t
   missed h = omega (arith, s .within, s .passed, first-end p (registryOf b .registrations) i (omega (arith, here-long b)))
+
+-- a place that is not like the name does not have it
+unlike : (name : List ℕ) (p : Registration) → isLike (length name) (lastOf name) p ≡ false → false ≡ hasName name p
+unlike name p e = by (eqb (length (nameBytes (p .name))) (length name)) refl (eqb (lastOf (nameBytes (p .name))) (lastOf name)) refl e where
+  by : (l : Bool) → eqb (length (nameBytes (p .name))) (length name) ≡ l → (z : Bool) → eqb (lastOf (nameBytes (p .name))) (lastOf name) ≡ z
+      → l && z ≡ false → false ≡ hasName name p
+  by false a z b f = other-length name p (eqb-false (length (nameBytes (p .name))) (length name) a)
+  by true a false b f = other-last name p (eqb-false (lastOf (nameBytes (p .name))) (lastOf name) b)
+  by true a true b f = let w : _≡_ {A = ℕ} 0 1 = cc in absurd (omega arith)
+
+-- so the places that are not like it are passed over
+pass-unlike : (name : List ℕ) (ps : List Registration)
+    → firstAt (hasName name) ps ≡ firstAt (isLike (length name) (lastOf name)) ps + firstAt (hasName name) (drop (firstAt (isLike (length name) (lastOf name)) ps) ps)
+unfolding firstAt
+pass-unlike name [] = refl
+pass-unlike name (p ∷ ps) = by (pass-unlike name ps) (isLike (length name) (lastOf name) p) refl where
+  later : ℕ
+  later = firstAt (isLike (length name) (lastOf name)) ps
+
+  by : firstAt (hasName name) ps ≡ later + firstAt (hasName name) (drop later ps) → (t : Bool) → isLike (length name) (lastOf name) p ≡ t
+      → cond (hasName name p) 0 (suc (firstAt (hasName name) ps)) ≡ cond t 0 (suc later) + firstAt (hasName name) (drop (cond t 0 (suc later)) (p ∷ ps))
+  by after true e = omega arith
+  by after false e = rw (sym (unlike name p e)) (omega (arith, after))
+
+pub leap : (name b : List ℕ) (t i j last : ℕ) → last ≡ lastOf name → Sought (hasName name) b t i
+    → j ≡ i + firstAt (isLike (length name) last) (left b i) → Sought (hasName name) b t j
+leap name b t i j last z s f =
+    let k = firstAt (isLike (length name) (lastOf name)) (left b i) in
+    let e : j ≡ i + k = f ∙ ap (λ (x : ℕ). i + firstAt (isLike (length name) x) (left b i)) z in
+    record {
+      within = omega (arith, e, s .within, first-within (isLike (length name) (lastOf name)) (left b i), length-drop i (registryOf b .registrations), here-long b);
+      passed = omega (arith, s .passed, e, pass-unlike name (left b i), ap (firstAt (hasName name)) (drop-drop k i (registryOf b .registrations) ∙ ap (left b) (sym e)));
+    }
+
+pub empty-last : (l : List ℕ) → length l ≡ 0 → lastOf l ≡ 0
+empty-last [] e = refl
+empty-last (x ∷ l) e = absurd (omega (arith, e))
+
+-- the last byte of a record's name is where its length says
+pub last-here : (b : List ℕ) (n : ℕ) → n ≡ beAt 1 0 b → n ≤ 255 → length b ≡ entrySize → lastOf (nameBytes (entryBy b .name)) ≡ beAt 1 n b
+last-here b zero e h l = ap lastOf (name-here b zero e h) ∙ none-last b ∙ e
+last-here b (suc n) e h l =
+    let m = part-length 1 (suc n) b (omega (arith, l)) in
+    ap lastOf (name-here b (suc n) e h) ∙ ap (λ (k : ℕ). getD (part 1 (suc n) b) (k - 1) 0) m ∙ part-last b n ∙ beAt-byte (suc n) b (omega (arith, l))
 
 -- ---- as the numbers of a record are written, one behind the other
 

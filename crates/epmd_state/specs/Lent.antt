@@ -1,12 +1,14 @@
 -- A registry as it lies in bytes that a host lends: its own port and next creation, and 64 records. Sizes follow from the layouts.
-use Prim.Native.Nat.{ℕ, _+_, _*_}
+use Prim.Native.Nat.{ℕ, _+_, _-_, _*_}
 use mathlib.Core.Path.{_≡_}
-use mathlib.Core.Bool.{Bool}
+use mathlib.Core.Bool.{Bool, _&&_}
 use mathlib.Core.List.{List, [], _∷_, _++_}
-use lib.ListN.{getD, set}
+use lib.ListN.{length, getD, set}
+use lib.Dec.{eqb}
 use Rattle.wire.specs.Table.{table}
 use Rattle.wire.specs.Output.{written}
 use Rattle.wire.specs.Layout.{number, bytes, Layout, Value, int, run, encode, decode, extent, intOf, runOf, intAt}
+use Rattle.names.specs.Held.{nameBytes}
 use Rattle.epmd_rules.specs.State.{Registry, Made, Closed}
 use Rattle.epmd_rules.specs.declared.registration.Registration.{Registration}
 use Rattle.epmd_rules.specs.declared.answer.Making.{Making}
@@ -130,3 +132,11 @@ placed r i p = record { port = r .port; next = r .next; registrations = set (r .
 -- a registry with another port and next creation
 abbrev pub headed : ℕ → ℕ → Registry → Registry
 headed p n r = record { port = p; next = n; registrations = r .registrations }
+
+-- ---- look-up by name: what is seen first of a place, the length of its name and its last byte
+
+abbrev pub lastOf : List ℕ → ℕ
+lastOf l = getD l (length l - 1) 0
+
+abbrev pub isLike : (n last : ℕ) → Registration → Bool
+isLike n last p = eqb (length (nameBytes (p .name))) n && eqb (lastOf (nameBytes (p .name))) last

@@ -24,7 +24,7 @@ ghost use lib.ListN.{length};
 ghost use Rattle.names.specs.Held.{nameBytes};
 ghost use Rattle.epmd_rules.specs.Registration.{isFree, heldExtra, extraBytes};
 ghost use Rattle.epmd_rules.specs.Registry.{entryAt};
-ghost use Rattle.epmd_state.specs.Lent.{places, entrySize, size, kindIn, protocolIn, portIn, highestIn, lowestIn, connectionIn, creationIn, entryBy, registryOf};
+ghost use Rattle.epmd_state.specs.Lent.{places, entrySize, size, kindIn, protocolIn, portIn, highestIn, lowestIn, connectionIn, creationIn, entryBy, registryOf, isLike};
 
 pub fn record_of(state: &[u8], at: usize) -> &[u8]
     requires { ⌜ (at < places) × (length (now state) ≡ size) ⌝ }
@@ -39,6 +39,17 @@ pub fn is_free(bytes: &[u8]) -> bool
     ensures { λ r. ⌜ r ≡ isFree (entryBy (now (bytes .entry))) ⌝ }
 {
     wire::get8(bytes, NAME_LEN) == 0
+}
+
+// Whether the name has n bytes, of which this is the last (0 if there is none).
+pub(crate) fn is_like(bytes: &[u8], n: usize, last: u8) -> bool
+    requires { ⌜ length (now bytes) ≡ entrySize ⌝ }
+    ensures { λ r. ⌜ r ≡ isLike n last (entryBy (now (bytes .entry))) ⌝ }
+{
+    if wire::get8(bytes, NAME_LEN) as usize != n {
+        return false;
+    }
+    wire::get8(bytes, NAME_LEN + n) == last
 }
 
 pub fn name(bytes: &[u8]) -> &[u8]

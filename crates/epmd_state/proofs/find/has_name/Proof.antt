@@ -1,12 +1,11 @@
 use mathlib.Core.Path.{_≡_, sym, _∙_, ap}
 use Prim.Native.Nat.{ℕ}
 use mathlib.Core.List.{List}
-use native.Mathlib.Omega.{arith}
 use lib.ListN.{length}
 use Rattle.wire.specs.Run.{sameBytes}
 use Rattle.names.specs.Held.{nameBytes}
 use Rattle.epmd_state.specs.Lent.{entryBy}
-use Rattle.epmd_state.proofs.LentLaws.{other-length, none-held, by-bytes}
+use Rattle.epmd_state.proofs.LentLaws.{none-held, by-bytes}
 use borrow.Author.Needs.{needs}
 use Rattle.epmd_state.proofs.find.has_name.Statement.{statement}
 use Rattle.epmd_state.proofs.find.has_name.Tie as tie
@@ -17,21 +16,17 @@ name-requires c κs = search needs
 returns : tie.Need-returns
 returns c =
     let a = c .before .before .before .before .args in
-    other-length (a .name .now) (entryBy (a .bytes .now)) (λ (e : length (nameBytes (entryBy (a .bytes .now) .name)) ≡ length (a .name .now)). c .if1 .taken (ap length (c .before .name .ensures .0) ∙ e))
-
-returns-2 : tie.Need-returns-2
-returns-2 c =
-    let a = c .before .before .before .before .before .args in
-    none-held (a .name .now) (entryBy (a .bytes .now)) (sym (ap length (c .before .before .name .ensures .0)) ∙ c .if2 .taken)
+    none-held (a .name .now) (entryBy (a .bytes .now)) (sym (ap length (c .before .name .ensures .0)) ∙ c .if1 .taken)
 
 same-bytes-requires : tie.Need-same-bytes-requires
 same-bytes-requires c κs = search needs
 
-returns-3 : tie.Need-returns-3
-returns-3 c =
-    let a = c .before .before .before .before .before .before .args in
-    c .same-bytes .ensures ∙ ap (λ (l : List ℕ). sameBytes l (a .name .now)) (c .before .before .before .name .ensures .0)
-    ∙ by-bytes (a .name .now) (entryBy (a .bytes .now)) (λ (e : length (nameBytes (entryBy (a .bytes .now) .name)) ≡ 0). c .before .if2 .left (ap length (c .before .before .before .name .ensures .0) ∙ e))
+returns-2 : tie.Need-returns-2
+returns-2 c =
+    let a = c .before .before .before .before .before .args in
+    c .same-bytes .ensures ∙ ap (λ (l : List ℕ). sameBytes l (a .name .now)) (c .before .before .name .ensures .0)
+    ∙ by-bytes (a .name .now) (entryBy (a .bytes .now))
+    (λ (e : length (nameBytes (entryBy (a .bytes .now) .name)) ≡ 0). c .before .if1 .left (ap length (c .before .before .name .ensures .0) ∙ e))
 
 pub has-name-spec : {M : Type 1} → statement M
-has-name-spec = tie.close (tie.spec name-requires returns returns-2 same-bytes-requires returns-3)
+has-name-spec = tie.close (tie.spec name-requires returns same-bytes-requires returns-2)
