@@ -104,6 +104,14 @@ pub fn mapper() {
         false,
     );
     requests("NAMES, 64 of 255 bytes", &names, &frame(&[110]), false);
+    let inside = |i: usize| format!("{:n>126}{i:02}{:n>127}", "", "").into_bytes();
+    let names: Vec<Vec<u8>> = (0..64).map(inside).collect();
+    requests(
+        "PORT_PLEASE2, last of 64 of 255 bytes that differ in the middle",
+        &names,
+        &port_please2(&names[63]),
+        false,
+    );
     requests("refused: no frame", &[], &[0, 2, 110], false);
     requests("refused: a bad name", &names, &port_please2(b"a@b"), false);
 }
