@@ -20,9 +20,10 @@ use handshake_state::answers::say;
 use handshake_state::answers::without;
 use handshake_state::bytes::own_creation;
 use handshake_state::bytes::own_flags;
-use handshake_state::bytes::own_name;
+use handshake_state::bytes::own_part;
 use handshake_state::lookup::find;
 use handshake_state::slots::free_slot;
+use handshake_state::slots::peer_at;
 use handshake_state::slots::sent;
 use handshake_state::slots::slot;
 use names::Name;
@@ -43,10 +44,10 @@ ghost use Rattle.handshake_rules.specs.Plans as plans;
 ghost use Rattle.handshake_rules.specs.Accepting as spec;
 
 // Both sides started: the attempt of the greater name goes on.
-fn contest(own: Name, name: &[u8], mine: usize) -> Greeting
-    ensures { λ r. ⌜ r ≡ spec.contest (spec.isGreater (order (now (name .entry)) (nameBytes own))) mine ⌝ }
+fn contest(own: &[u8], name: &[u8], mine: usize) -> Greeting
+    ensures { λ r. ⌜ r ≡ spec.contest (spec.isGreater (order (now (name .entry)) (now (own .entry)))) mine ⌝ }
 {
-    match own.compare(name) {
+    match wire::compare(own, name) {
         wire::Order::Less => Greeting::OkSimultaneous(mine),
         wire::Order::Equal => Greeting::Nok,
         wire::Order::Greater => Greeting::Nok,
@@ -73,8 +74,8 @@ fn greeting(state: &[u8], name: &[u8]) -> Greeting
     requires { ⌜ Whole (now state) ⌝ }
     ensures { λ r. ⌜ r ≡ spec.greeting (endpointOf (now (state .entry))) (now (name .entry)) ⌝ }
 {
-    let own = own_name(state);
-    if own.is(name) {
+    let own = own_part(state);
+    if wire::same_bytes(own, name) {
         return Greeting::NotAllowed;
     }
     if 32 <= find(state, Sought::AnyTaken, name) {
@@ -107,7 +108,7 @@ fn welcome(
     ensures { λ r. ⌜ Does (record { told = plans.answers (endpointOf (now (state .entry))) at slot freed (length (spec.welcomes (endpointOf (now (state .entry))) (now (word .entry)) challenge)); bytes = spec.welcomes (endpointOf (now (state .entry))) (now (word .entry)) challenge }) r (now (state .exit)) (now (out .entry)) (now (out .exit)) ⌝ }
 {
     let n = send_status(out, word);
-    let own = own_name(&state[..]);
+    let own = own_part(&state[..]);
     let flags = own_flags(&state[..]);
     let creation = own_creation(&state[..]);
     let m = send_challenge(out, n, own, flags, challenge, creation);
@@ -176,7 +177,7 @@ fn challenge_peer(state: &mut [u8], at: usize, challenge: u32, out: &mut [u8]) -
     requires { ⌜ (at < 32) × Roomy (now out) × Whole (now state) ⌝ }
     ensures { λ r. ⌜ Does (plans.answered (endpointOf (now (state .entry))) at (plans.sent (slotAt (endpointOf (now (state .entry))) at) AwaitsReply challenge) Nothing (plans.challengeOf (endpointOf (now (state .entry))) challenge)) r (now (state .exit)) (now (out .entry)) (now (out .exit)) ⌝ }
 {
-    let own = own_name(&state[..]);
+    let own = own_part(&state[..]);
     let flags = own_flags(&state[..]);
     let creation = own_creation(&state[..]);
     let count = send_challenge(out, 0, own, flags, challenge, creation);
@@ -217,23 +218,13 @@ pub fn recv_alive(
     }
 }
 
-// The lowest slot that is sought by a held name, or 32.
-fn find_held(state: &[u8], what: Sought, name: Name) -> usize
-    requires { ⌜ Whole (now state) ⌝ }
-    ensures { λ r. ⌜ r ≡ lowest what (nameBytes name) (endpointOf (now (state .entry))) ⌝ }
-{
-    let b = name.array();
-    let l = name.size();
-    find(state, what, &b[..l])
-}
-
-// The slot s is connected, and an older connected slot of its peer is freed.
-fn connect(state: &mut [u8], at: usize, s: Slot, count: usize) -> Answer
+// The slot is connected, and an older connected slot of its peer is freed.
+fn connect(state: &mut [u8], at: usize, count: usize) -> Answer
     requires { ⌜ (at < 32) × Whole (now state) ⌝ }
-    ensures { λ r. ⌜ Tells (plans.answers (freeOther (endpointOf (now (state .entry))) (spec.older (endpointOf (now (state .entry))) s)) at (plans.moved s Connected) (spec.older (endpointOf (now (state .entry))) s) count) r (now (state .exit)) ⌝ }
+    ensures { λ r. ⌜ Tells (plans.answers (freeOther (endpointOf (now (state .entry))) (spec.older (endpointOf (now (state .entry))) (slotAt (endpointOf (now (state .entry))) at))) at (plans.moved (slotAt (endpointOf (now (state .entry))) at) Connected) (spec.older (endpointOf (now (state .entry))) (slotAt (endpointOf (now (state .entry))) at)) count) r (now (state .exit)) ⌝ }
 {
-    let n = s.name;
-    let old = find_held(&state[..], Sought::ConnectedTo, n);
+    let old = find(&state[..], Sought::ConnectedTo, peer_at(&state[..], at));
+    let s = slot(&state[..], at);
     let t = sent(s, Stage::Connected, s.challenge);
     if old < 32 {
         without(state, old);
@@ -259,7 +250,7 @@ fn on_challenge_reply(
     }
     let d = digest(wire::get32(body, 1), cookie);
     let count = send_challenge_ack(out, &d);
-    connect(state, at, s, count)
+    connect(state, at, count)
 }
 
 // Awaits reply.

@@ -14,6 +14,7 @@ use handshake_rules::refusal::Refusal;
 use handshake_state::answers::answer;
 use handshake_state::answers::refuse;
 use handshake_state::answers::say;
+use handshake_state::slots::peer_at;
 use handshake_state::slots::sent;
 use handshake_state::slots::slot;
 ghost use Rattle.handshake_state.specs.Bytes.{Whole, endpointOf, Tells, Concludes, ConcludesAlike};
@@ -115,8 +116,7 @@ pub fn recv_challenge(
     ensures { λ r. ⌜ Concludes (now (cookie .entry)) at (λ g. plans.stagePlan (spec.expectChallenge (slotAt g at) challenge (now (body .entry)))) (now (state .entry)) r (now (state .exit)) (now (out .entry)) (now (out .exit)) ⌝ }
 {
     let s = slot(&state[..], at);
-    let peer = s.name;
-    match check_challenge(body, peer) {
+    match check_challenge(body, peer_at(&state[..], at)) {
         Check::Refuse(why) => refuse(state, at, why),
         Check::Pass => on_challenge(state, at, s, body, challenge, cookie, out),
     }

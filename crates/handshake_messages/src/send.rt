@@ -1,4 +1,3 @@
-use names::Name;
 ghost use mathlib.Core.Path.{_≡_};
 ghost use Prim.Native.Nat.{_+_, _≤_};
 ghost use mathlib.Core.List.{[], _∷_, _++_};
@@ -6,7 +5,6 @@ ghost use lib.ListN.{length};
 ghost use Rattle.wire.specs.Number.{be};
 ghost use Rattle.wire.specs.Output.{overwrite, written};
 ghost use Rattle.wire.specs.Layout.{encode, number, int};
-ghost use Rattle.names.specs.Held.{nameBytes};
 ghost use Rattle.handshake_rules.specs.Calls.{Roomy};
 ghost use Rattle.handshake_rules.specs.Messages.{beforeName, beforeChallenger, nameMessage, challengeMessage, statusMessage, replyMessage, ackMessage};
 
@@ -40,15 +38,15 @@ fn challenge_header(flags: u64, challenge: u32, creation: u32, n: u8) -> [u8; 21
 }
 
 // Writes the name message from the first byte on, and tells its length.
-pub fn send_name(out: &mut [u8], name: Name, flags: u64, creation: u32) -> usize
-    requires { ⌜ Roomy (now out) ⌝ }
-    ensures { λ r. ⌜ r ≡ length (nameMessage flags creation (nameBytes name)) ⌝ }
-    ensures { λ _. ⌜ now (out .exit) ≡ written (nameMessage flags creation (nameBytes name)) (now (out .entry)) ⌝ }
+pub fn send_name(out: &mut [u8], name: &[u8], flags: u64, creation: u32) -> usize
+    requires { ⌜ (length (now name) ≤ 255) × Roomy (now out) ⌝ }
+    ensures { λ r. ⌜ r ≡ length (nameMessage flags creation (now (name .entry))) ⌝ }
+    ensures { λ _. ⌜ now (out .exit) ≡ written (nameMessage flags creation (now (name .entry))) (now (out .entry)) ⌝ }
 {
-    let n = name.size();
+    let n = name.len();
     let h = name_header(flags, creation, n as u8);
     wire::put_bytes(out, 0, &h);
-    name.put(out, 17);
+    wire::put_bytes(out, 17, name);
     17 + n
 }
 
@@ -56,19 +54,19 @@ pub fn send_name(out: &mut [u8], name: Name, flags: u64, creation: u32) -> usize
 pub fn send_challenge(
     out: &mut [u8],
     at: usize,
-    name: Name,
+    name: &[u8],
     flags: u64,
     challenge: u32,
     creation: u32,
 ) -> usize
-    requires { ⌜ (at ≤ 18) × Roomy (now out) ⌝ }
-    ensures { λ r. ⌜ r ≡ length (challengeMessage flags challenge creation (nameBytes name)) ⌝ }
-    ensures { λ _. ⌜ now (out .exit) ≡ overwrite (now (out .entry)) at (challengeMessage flags challenge creation (nameBytes name)) ⌝ }
+    requires { ⌜ (at ≤ 18) × (length (now name) ≤ 255) × Roomy (now out) ⌝ }
+    ensures { λ r. ⌜ r ≡ length (challengeMessage flags challenge creation (now (name .entry))) ⌝ }
+    ensures { λ _. ⌜ now (out .exit) ≡ overwrite (now (out .entry)) at (challengeMessage flags challenge creation (now (name .entry))) ⌝ }
 {
-    let n = name.size();
+    let n = name.len();
     let h = challenge_header(flags, challenge, creation, n as u8);
     wire::put_bytes(out, at, &h);
-    name.put(out, at + 21);
+    wire::put_bytes(out, at + 21, name);
     21 + n
 }
 

@@ -21,8 +21,8 @@ use Rattle.handshake_rules.specs.Endpoint.{freeSlot, fresh, put, freeOth
 use Rattle.handshake_rules.specs.Cookie.{Cookies}
 use Rattle.handshake_rules.specs.Plans.{stop, go, Plan, sure, proven}
 use Rattle.handshake_rules.specs.Calls.{newTests, notMade, newOf, awaited}
-use Rattle.handshake_rules.specs.Runs.{Call, next, Asked, ends}
-use Rattle.handshake_rules.specs.Claims.{MadeOf, KeptWhole, MadeFresh}
+use Rattle.handshake_rules.specs.Runs.{Call, next, Asked, ends, MadeOf}
+use Rattle.handshake_rules.specs.Claims.{KeptWhole, MadeFresh}
 use Rattle.handshake_rules.proofs.CheckLaws.{none-holds, not-not}
 use Rattle.handshake_rules.proofs.PlanLaws.{Does, after-call}
 

@@ -9,7 +9,7 @@ ghost use mathlib.Core.List.{[], _∷_};
 ghost use lib.ListN.{length};
 ghost use Rattle.wire.specs.Run.{part};
 ghost use Rattle.wire.specs.Layout.{encode, int};
-ghost use Rattle.names.specs.Held.{nameOf};
+ghost use Rattle.names.specs.Held.{nameOf, nameBytes};
 ghost use Rattle.handshake_rules.specs.Endpoint.{put};
 ghost use Rattle.handshake_state.specs.Bytes.{numbersL, slotSize, recordAt, Whole, slotBy, endpointOf, ownedBy};
 
@@ -33,9 +33,9 @@ const CHALLENGE: usize = CREATION + 4;
 
 pub(crate) const STAGE: usize = CHALLENGE + 4;
 
-pub(crate) const LEN: usize = STAGE + 1;
+const LEN: usize = STAGE + 1;
 
-pub(crate) const NAME: usize = LEN + 1;
+const NAME: usize = LEN + 1;
 
 const RECORD: usize = NAME + 255;
 
@@ -70,6 +70,15 @@ pub fn slot_of(bytes: &[u8]) -> Slot
     }
 }
 
+// The peer's name where it lies in a slot's record.
+pub fn peer_part(bytes: &[u8]) -> &[u8]
+    requires { ⌜ length (now bytes) ≡ slotSize ⌝ }
+    ensures { λ r. ⌜ now r ≡ nameBytes (slotBy (now (bytes .entry)) .name) ⌝ }
+{
+    let len = wire::get8(bytes, LEN) as usize;
+    wire::get_part(bytes, NAME, len)
+}
+
 // A slot's record up to the name.
 fn numbers(flags: u64, creation: u32, challenge: u32, stage: u8, len: u8) -> [u8; 18]
     ensures { λ r. ⌜ r ≡ encode numbersL (int flags ∷ int creation ∷ int challenge ∷ int stage ∷ int len ∷ []) ⌝ }
@@ -102,6 +111,16 @@ pub fn put_slot(state: &mut [u8], at: usize, slot: Slot)
     let o = OWN + at * RECORD;
     wire::put_bytes(state, o, &h);
     wire::put_bytes(state, o + NAME, &b);
+}
+
+// Our own name where it lies; and as a value, for a host.
+pub fn own_part(state: &[u8]) -> &[u8]
+    requires { ⌜ Whole (now state) ⌝ }
+    ensures { λ r. ⌜ now r ≡ nameBytes (endpointOf (now (state .entry)) .name) ⌝ }
+    ensures { λ r. ⌜ length (now r) ≤ 255 ⌝ }
+{
+    let len = wire::get8(state, OWN_LEN) as usize;
+    wire::get_part(state, OWN_NAME, len)
 }
 
 pub fn own_name(state: &[u8]) -> Name

@@ -1,7 +1,6 @@
 // Look-up: the lowest slot of a kind, by the peer's name where the kind has one.
-use crate::bytes::LEN;
-use crate::bytes::NAME;
 use crate::bytes::STAGE;
+use crate::bytes::peer_part;
 use crate::bytes::record_of;
 use crate::slots::kind_of;
 use crate::slots::stage_of;
@@ -30,8 +29,7 @@ fn is_peer(bytes: &[u8], meant: bool, name: &[u8]) -> bool
     if !meant {
         return false;
     }
-    let len = wire::get8(bytes, LEN) as usize;
-    wire::same_bytes(wire::get_part(bytes, NAME, len), name)
+    wire::same_bytes(peer_part(bytes), name)
 }
 
 fn is_sought(bytes: &[u8], what: Sought, name: &[u8]) -> bool

@@ -1,11 +1,14 @@
 // Slots as values: the stage of a number and its kind, a free slot, a slot's next record.
 use crate::bytes::STAGE;
+use crate::bytes::peer_part;
 use crate::bytes::record_of;
 use crate::bytes::slot_of;
 use handshake_rules::endpoint::Slot;
 use handshake_rules::endpoint::Stage;
 use names::Name;
 ghost use mathlib.Core.Path.{_≡_};
+ghost use Prim.Native.Nat.{_<_};
+ghost use Rattle.names.specs.Held.{nameBytes};
 ghost use Rattle.handshake_rules.specs.Endpoint as spec;
 ghost use Rattle.handshake_rules.specs.Plans as plans;
 ghost use Rattle.handshake_state.specs.Bytes.{Whole, endpointOf};
@@ -91,6 +94,14 @@ pub fn stage_at(state: &[u8], at: usize) -> Stage
         return Stage::Free;
     }
     stage_of(wire::get8(record_of(state, at), STAGE))
+}
+
+// The name of a slot's peer, where it lies.
+pub fn peer_at(state: &[u8], at: usize) -> &[u8]
+    requires { ⌜ (at < 32) × Whole (now state) ⌝ }
+    ensures { λ r. ⌜ now r ≡ nameBytes (spec.slotAt (endpointOf (now (state .entry))) at .name) ⌝ }
+{
+    peer_part(record_of(state, at))
 }
 
 // A slot's record; past the last slot, that of a free one.

@@ -53,12 +53,16 @@ pub part-there : (n a : ℕ) (b r : List ℕ) → length r ≡ n → a ≤ lengt
 unfolding overwrite
 part-there n a b r e k = part-behind (take a b) r (drop (a + length r) b) a n (length-take-le a b k) e
 
--- a shorter front of a part
+-- a part is the front of a longer one
 pub take-within : (n m : ℕ) (l : List ℕ) → n ≤ m → take n l ≡ take n (take m l)
 take-within zero m l h = refl
 take-within (suc n) zero l h = absurd (omega arith)
 take-within (suc n) (suc m) [] h = refl
 take-within (suc n) (suc m) (x ∷ l) h = ap (λ (r : List ℕ). x ∷ r) (take-within n m l (omega arith))
+
+pub part-within : (o n m : ℕ) (b : List ℕ) → n ≤ m → part o n b ≡ take n (part o m b)
+unfolding part
+part-within o n m b h = take-within n m (drop o b) h
 
 -- a part of zeros
 zeros-behind : (k n m : ℕ) → m ≡ k + n → drop k (replicate {A = ℕ} m 0) ≡ replicate n 0
