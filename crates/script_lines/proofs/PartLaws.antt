@@ -11,11 +11,11 @@ use borrow.Author.Tests.{ltb-true, ltb-false, ne-eqb}
 use Rattle.script_lines.specs.declared.line.Item.the-variants.{Malformed}
 use Rattle.script_lines.specs.declared.script.Awaits.{Awaits}
 use Rattle.script_lines.specs.declared.script.Awaits.the-variants.{Operation, Connection, Frame, Nothing}
-use Rattle.script_lines.specs.declared.script.Script.{Script}
+use Rattle.script_lines.specs.State.{Script}
 use Rattle.script_lines.specs.Line.{itemOf}
 use Rattle.script_lines.specs.Script.{Outcome, planOf, outcomeOf, lineOf}
-use Rattle.script_lines.specs.Lines.{upTo, linesFrom, printedFrom, kept, takeOf}
-use Rattle.script_lines.specs.Claims.{toPrint, PartsPrint}
+use Rattle.script_lines.specs.Lines.{upTo, linesFrom, printedFrom, toPrint, kept, takeOf}
+use Rattle.script_lines.specs.Claims.{PartsPrint}
 use Rattle.script_lines.proofs.LineLaws.{item-long}
 use Rattle.script_lines.proofs.TakeLaws.{take-line, take-part}
 
