@@ -2,8 +2,8 @@
 //! finds, so the endpoint is put back before each, outside the time that is taken: by the processor's
 //! time stamp counter, on both sides of the call, less what a call of nothing takes so.
 
-use crate::timing::print;
-use std::arch::x86_64::{_mm_lfence, _rdtsc};
+use crate::timing::print_single;
+use std::arch::x86_64::{_mm_lfence, _mm_mfence, _rdtsc};
 use std::hint::black_box;
 use std::time::{Duration, Instant};
 
@@ -35,6 +35,12 @@ fn stamp() -> u64 {
     }
 }
 
+/// Waits until what was stored has left the processor's queue.
+fn settle() {
+    // SAFETY: every x86-64 processor has it.
+    unsafe { _mm_mfence() };
+}
+
 /// How many nanoseconds a step of the counter takes.
 fn step() -> f64 {
     let (start, from) = (Instant::now(), stamp());
@@ -48,6 +54,7 @@ fn turn<E: Clone>(case: &Case<E>, endpoint: &mut E, out: &mut [u8]) -> f64 {
     let mut steps = 0;
     for _ in 0..TIMES {
         endpoint.clone_from(&case.before);
+        settle();
         let from = stamp();
         (case.call)(black_box(endpoint), out);
         steps += stamp() - from;
@@ -142,6 +149,6 @@ pub fn calls() {
     for (case, times) in ours.iter().zip(&best).skip(1) {
         let (ours, peer) = ((times.0 - best[0].0) * step, (times.1 - best[0].1) * step);
         let name = format!("endpoint alone: {}", case.name);
-        print(&name, ours, "independent implementation", peer);
+        print_single(&name, ours, "independent implementation", peer);
     }
 }

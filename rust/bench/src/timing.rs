@@ -59,3 +59,17 @@ pub fn print(case: &str, ours: f64, peer: &str, time: f64) {
     let ratio = ours / time;
     println!("| {case} | {ours:.0} | {peer} | {time:.0} | {ratio:.2} |");
 }
+
+/// The same for times that were taken singly: below ten nanoseconds they are the clock's noise, and
+/// have no ratio.
+pub fn print_single(case: &str, ours: f64, peer: &str, time: f64) {
+    let shown = |time: f64| match time < 10.0 {
+        true => "below 10".to_string(),
+        false => format!("{time:.0}"),
+    };
+    if ours.min(time) < 10.0 {
+        println!("| {case} | {} | {peer} | {} | |", shown(ours), shown(time));
+    } else {
+        print(case, ours, peer, time);
+    }
+}
