@@ -40,7 +40,7 @@ unfolding registryOf entryAt
 entry-here b i h = sym (table-at entryBy entrySize places headSize i (headSize + i * entrySize) b free h refl)
 
 -- what is written of a registration is read back
-entry-back : (p : Registration) → Fits entryL (entryValues p) → entryBy (entryBytes p) ≡ p
+pub entry-back : (p : Registration) → Fits entryL (entryValues p) → entryBy (entryBytes p) ≡ p
 unfolding entryBy
 entry-back p h = ap (λ (c : List ℕ). entryFrom (decode entryL c)) (sym (append-nil (entryBytes p))) ∙ ap entryFrom (layout-back entryL (entryValues p) [] h .fields)
 
@@ -56,7 +56,7 @@ set-here b r i p h l long e =
     let q : entries c ≡ set (entries b) i p = table-set entryBy entrySize places headSize i a b r h refl long (omega (arith, l)) ∙ ap (set (entries b) i) e in
     λ j. record { port = num (p0 j); next = num (p1 j); registrations = q j }
 
-entry-long : (p : Registration) → length (p .name .bytes) ≡ 255 → length (p .extra .bytes) ≡ 128 → length (entryBytes p) ≡ entrySize
+pub entry-long : (p : Registration) → length (p .name .bytes) ≡ 255 → length (p .extra .bytes) ≡ 128 → length (entryBytes p) ≡ entrySize
 entry-long p h k =
     let t : List ℕ = encode tailL (tailValues p) in
     let e : List ℕ = be 1 (p .extra .len) ++ (p .extra .bytes ++ t) in
@@ -98,11 +98,11 @@ entry-split p =
 
 -- ---- port and next creation
 
-headFrom : List Value → List Registration → Registry
+abbrev pub headFrom : List Value → List Registration → Registry
 headFrom vs l = record { port = intOf (getD vs 0 (int 0)); next = intOf (getD vs 1 (int 0)); registrations = l }
 
 pub head-here : (b : List ℕ) (p n : ℕ) → length b ≡ size → p < 256 ^ 2 → n < 256 ^ 4 → registryOf (overwrite b 0 (be 2 p ++ be 4 n)) ≡ headed p n (registryOf b)
-unfolding registryOf overwrite headFrom
+unfolding registryOf overwrite
 head-here b p n l h k =
     let e : List ℕ = encode headL (int p ∷ int n ∷ []) in
     ap₂ headFrom (layout-back headL (int p ∷ int n ∷ []) (drop (0 + length e) b) (h, (k, tt)) .fields)

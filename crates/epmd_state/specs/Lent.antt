@@ -5,9 +5,9 @@ use mathlib.Core.Bool.{Bool, _&&_}
 use mathlib.Core.List.{List, [], _∷_, _++_}
 use lib.ListN.{length, getD, set}
 use lib.Dec.{eqb}
-use Rattle.wire.specs.Table.{table}
+use Rattle.wire.specs.Table.{table, tableBytes}
 use Rattle.wire.specs.Output.{written}
-use Rattle.wire.specs.Layout.{number, bytes, Layout, Value, int, run, encode, decode, extent, intOf, runOf, intAt}
+use Rattle.wire.specs.Layout.{number, bytes, Layout, Value, int, run, encode, decode, width, intOf, runOf, intAt}
 use Rattle.names.specs.Held.{nameBytes}
 use Rattle.epmd_rules.specs.State.{Registry, Made, Closed}
 use Rattle.epmd_rules.specs.declared.registration.Registration.{Registration}
@@ -37,14 +37,14 @@ abbrev pub places : ℕ
 places = 64
 
 abbrev pub headSize : ℕ
-headSize = extent headL []
+headSize = width headL
 
 -- where the numbers of a record begin
 abbrev pub tailAt : ℕ
-tailAt = extent textL []
+tailAt = width textL
 
 abbrev pub entrySize : ℕ
-entrySize = extent entryL []
+entrySize = width entryL
 
 abbrev pub size : ℕ
 size = headSize + places * entrySize
@@ -101,6 +101,10 @@ entryBy c = entryFrom (decode entryL c)
 
 unfoldable pub registryOf : List ℕ → Registry
 registryOf b = record { port = intAt headL 0 b; next = intAt headL 1 b; registrations = table entryBy entrySize places headSize b }
+
+-- and the other way: the bytes of a registry
+abbrev pub stateBytes : Registry → List ℕ
+stateBytes r = encode headL (int (r .port) ∷ int (r .next) ∷ []) ++ tableBytes entryBytes (r .registrations)
 
 -- ---- what a call does with them
 

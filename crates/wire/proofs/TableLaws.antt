@@ -150,6 +150,11 @@ module _ {A : Type 0} (read : List ℕ → A) (write : A → List ℕ) (w : ℕ)
       (ap read (part-behind pre (write x) rest o w e (h .0 .0)) ∙ h .0 .1)
       (ap (table read w (length xs) (o + w)) q ∙ table-back xs (pre ++ write x) (o + w) l (h .1))
 
+  pub table-long : (xs : List A) → Each Kept xs → length (tableBytes write xs) ≡ length xs * w
+  unfolding tableBytes Each
+  table-long [] h = sym (zero-mul w)
+  table-long (x ∷ xs) h = omega (arith, length-append (write x) (tableBytes write xs), h .0 .0, table-long xs (h .1), suc-mul (length xs) w)
+
   pub table-only : (n o : ℕ) (b : List ℕ) → length b ≡ o + n * w
       → ((i : ℕ) → i < n → write (read (part (o + i * w) w b)) ≡ part (o + i * w) w b) → tableBytes write (table read w n o b) ≡ drop o b
   unfolding table tableBytes part
