@@ -29,10 +29,16 @@ $(LIB): $(RATTLE)
 	$(call prove,staticlib birkenschuh,staticlib)
 	@touch $@
 
-# The header from C; the wrapper's tests; the library against an implementation of its own, some millions of calls.
+# The header from C and C++; the stack that each call needs; the wrapper's tests; the library against an implementation of its own, some
+# millions of calls.
+STRICT := -O2 -pedantic-errors -Wall -Wextra -Werror -Iinclude
 check-host: lib
-	cc -std=c11 -O2 -Wall -Wextra -Werror -Iinclude include/tests/header.c $(LIB) -o target/header
+	cc -std=c11 $(STRICT) include/tests/header.c $(LIB) -o target/header
 	target/header
+	c++ -std=c++17 $(STRICT) -x c++ include/tests/header.c -x none $(LIB) -o target/header-c++
+	target/header-c++
+	cc -std=c11 $(STRICT) include/tests/stack.c $(LIB) -o target/stack
+	target/stack
 	cd rust && $(CARGO) test --release --workspace --exclude bench
 
 # One table: ours beside a peer, same input, same run (docs/PERFORMANCE.md).

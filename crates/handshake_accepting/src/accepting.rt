@@ -14,38 +14,36 @@ use handshake_rules::endpoint::Sought;
 use handshake_rules::endpoint::Stage;
 use handshake_rules::refusal::Check;
 use handshake_rules::refusal::Refusal;
-use handshake_state::endpoint::answer;
-use handshake_state::endpoint::free_slot;
-use handshake_state::endpoint::refuse;
-use handshake_state::endpoint::sent;
-use handshake_state::endpoint::slot;
-use handshake_state::endpoint::without;
-use handshake_state::lent::find_in;
-use handshake_state::lent::own_creation;
-use handshake_state::lent::own_flags;
-use handshake_state::lent::own_name;
-use handshake_state::status::say;
+use handshake_state::answers::answer;
+use handshake_state::answers::refuse;
+use handshake_state::answers::say;
+use handshake_state::answers::without;
+use handshake_state::bytes::own_creation;
+use handshake_state::bytes::own_flags;
+use handshake_state::bytes::own_part;
+use handshake_state::lookup::find;
+use handshake_state::slots::free_slot;
+use handshake_state::slots::peer_at;
+use handshake_state::slots::sent;
+use handshake_state::slots::slot;
 use names::Name;
-ghost use Rattle.handshake_state.specs.Lent.{endpointOf, toldIn};
+ghost use Rattle.handshake_state.specs.Bytes.{Whole, endpointOf, Tells, Does, Concludes, ConcludesAlike};
+ghost use Rattle.handshake_rules.specs.Calls.{Roomy};
 ghost use mathlib.Core.Path.{_≡_};
-ghost use Prim.Native.Nat.{ℕ, _+_, _≤_, _<_};
-ghost use mathlib.Core.List.{List, [], _∷_, _++_};
+ghost use Prim.Native.Nat.{_+_, _≤_, _<_};
 ghost use lib.ListN.{length};
 ghost use Rattle.wire.specs.Run.{order};
-ghost use Rattle.wire.specs.Output.{written};
-ghost use Rattle.names.specs.Held.{nameBytes};
 ghost use Rattle.handshake_rules.specs.declared.endpoint.Stage.the-variants.{AwaitsReply, Connected};
 ghost use Rattle.handshake_rules.specs.declared.endpoint.Freed.the-variants.{Nothing};
-ghost use Rattle.handshake_rules.specs.Endpoint.{slotAt, freeOther, lowest};
-ghost use Rattle.handshake_rules.specs.Messages.{statusMessage};
+ghost use Rattle.handshake_rules.specs.Endpoint.{slotAt, freeOther};
 ghost use Rattle.handshake_rules.specs.Plans as plans;
 ghost use Rattle.handshake_rules.specs.Accepting as spec;
 
 // Both sides started: the attempt of the greater name goes on.
-fn contest(own: Name, name: &[u8], mine: usize) -> Greeting
-    ensures { λ r. ⌜ r ≡ spec.contest (spec.isGreater (order (now (name .entry)) (nameBytes own))) mine ⌝ }
+fn contest(own: &[u8], name: &[u8], mine: usize) -> Greeting
+    ensures { λ r. ⌜ r ≡ spec.contest (spec.isGreater (order (now (name .entry)) (now (own .entry)))) mine ⌝ }
 {
-    match own.compare(name) {
+    match wire::compare(own, name) {
         wire::Order::Less => Greeting::OkSimultaneous(mine),
         wire::Order::Equal => Greeting::Nok,
         wire::Order::Greater => Greeting::Nok,
@@ -69,24 +67,24 @@ fn heard(stage: Stage, name: &[u8], flags: u64, creation: u32, challenge: u32) -
 
 // The first rule that fits a peer's name. Most peers have no slot yet: one look tells.
 fn greeting(state: &[u8], name: &[u8]) -> Greeting
-    requires { ⌜ length (now state) ≡ 9004 ⌝ }
+    requires { ⌜ Whole (now state) ⌝ }
     ensures { λ r. ⌜ r ≡ spec.greeting (endpointOf (now (state .entry))) (now (name .entry)) ⌝ }
 {
-    let own = own_name(state);
-    if own.is(name) {
+    let own = own_part(state);
+    if wire::same_bytes(own, name) {
         return Greeting::NotAllowed;
     }
-    if 32 <= find_in(state, Sought::AnyTaken, name) {
+    if 32 <= find(state, Sought::AnyTaken, name) {
         return Greeting::Ok;
     }
-    if find_in(state, Sought::AcceptedFrom, name) < 32 {
+    if find(state, Sought::AcceptedFrom, name) < 32 {
         return Greeting::Nok;
     }
-    let mine = find_in(state, Sought::StartedTo, name);
+    let mine = find(state, Sought::StartedTo, name);
     if mine < 32 {
         return contest(own, name, mine);
     }
-    if find_in(state, Sought::ConnectedTo, name) < 32 {
+    if find(state, Sought::ConnectedTo, name) < 32 {
         return Greeting::Alive;
     }
     Greeting::Ok
@@ -102,12 +100,11 @@ fn welcome(
     challenge: u32,
     out: &mut [u8],
 ) -> Answer
-    requires { ⌜ (at < 32) × (length (now word) ≤ 15) × (300 ≤ length (now out)) × (length (now state) ≡ 9004) ⌝ }
-    ensures { λ r. ⌜ toldIn r (now (state .exit)) ≡ plans.answers (endpointOf (now (state .entry))) at slot freed (length (spec.welcomes (endpointOf (now (state .entry))) (now (word .entry)) challenge)) ⌝ }
-    ensures { λ _. ⌜ now (out .exit) ≡ written (spec.welcomes (endpointOf (now (state .entry))) (now (word .entry)) challenge) (now (out .entry)) ⌝ }
+    requires { ⌜ (at < 32) × (length (now word) ≤ 15) × Roomy (now out) × Whole (now state) ⌝ }
+    ensures { λ r. ⌜ Does (record { told = plans.answers (endpointOf (now (state .entry))) at slot freed (length (spec.welcomes (endpointOf (now (state .entry))) (now (word .entry)) challenge)); bytes = spec.welcomes (endpointOf (now (state .entry))) (now (word .entry)) challenge }) r (now (state .exit)) (now (out .entry)) (now (out .exit)) ⌝ }
 {
     let n = send_status(out, word);
-    let own = own_name(&state[..]);
+    let own = own_part(&state[..]);
     let flags = own_flags(&state[..]);
     let creation = own_creation(&state[..]);
     let m = send_challenge(out, n, own, flags, challenge, creation);
@@ -124,9 +121,8 @@ fn on_name(
     challenge: u32,
     out: &mut [u8],
 ) -> Answer
-    requires { ⌜ (at < 32) × (length (now name) ≤ 255) × (300 ≤ length (now out)) × (length (now state) ≡ 9004) ⌝ }
-    ensures { λ r. ⌜ ((k : List ℕ) → toldIn r (now (state .exit)) ≡ plans.concluded k k (endpointOf (now (state .entry))) at (spec.onName (endpointOf (now (state .entry))) (now (name .entry)) flags creation challenge (spec.greeting (endpointOf (now (state .entry))) (now (name .entry)))) .told) ⌝ }
-    ensures { λ _. ⌜ ((k : List ℕ) → now (out .exit) ≡ written (plans.concluded k k (endpointOf (now (state .entry))) at (spec.onName (endpointOf (now (state .entry))) (now (name .entry)) flags creation challenge (spec.greeting (endpointOf (now (state .entry))) (now (name .entry)))) .bytes) (now (out .entry))) ⌝ }
+    requires { ⌜ (at < 32) × (length (now name) ≤ 255) × Roomy (now out) × Whole (now state) ⌝ }
+    ensures { λ r. ⌜ ConcludesAlike at (λ g. spec.onName g (now (name .entry)) flags creation challenge (spec.greeting g (now (name .entry)))) (now (state .entry)) r (now (state .exit)) (now (out .entry)) (now (out .exit)) ⌝ }
 {
     match greeting(&state[..], name) {
         Greeting::NotAllowed => say(state, at, free_slot(), b"not_allowed", out),
@@ -157,9 +153,8 @@ fn on_name(
 
 // Awaits name.
 pub fn recv_name(state: &mut [u8], at: usize, body: &[u8], challenge: u32, out: &mut [u8]) -> Answer
-    requires { ⌜ (at < 32) × (1 ≤ length (now body)) × (300 ≤ length (now out)) × (length (now state) ≡ 9004) ⌝ }
-    ensures { λ r. ⌜ ((k : List ℕ) → toldIn r (now (state .exit)) ≡ plans.concluded k k (endpointOf (now (state .entry))) at (plans.stagePlan (spec.expectName (endpointOf (now (state .entry))) challenge (now (body .entry)))) .told) ⌝ }
-    ensures { λ _. ⌜ ((k : List ℕ) → now (out .exit) ≡ written (plans.concluded k k (endpointOf (now (state .entry))) at (plans.stagePlan (spec.expectName (endpointOf (now (state .entry))) challenge (now (body .entry)))) .bytes) (now (out .entry))) ⌝ }
+    requires { ⌜ (at < 32) × (1 ≤ length (now body)) × Roomy (now out) × Whole (now state) ⌝ }
+    ensures { λ r. ⌜ ConcludesAlike at (λ g. plans.stagePlan (spec.expectName g challenge (now (body .entry)))) (now (state .entry)) r (now (state .exit)) (now (out .entry)) (now (out .exit)) ⌝ }
 {
     match check_name(body) {
         Check::Refuse(why) => refuse(state, at, why),
@@ -175,11 +170,10 @@ pub fn recv_name(state: &mut [u8], at: usize, body: &[u8], challenge: u32, out: 
 
 // Our challenge alone.
 fn challenge_peer(state: &mut [u8], at: usize, challenge: u32, out: &mut [u8]) -> Answer
-    requires { ⌜ (at < 32) × (300 ≤ length (now out)) × (length (now state) ≡ 9004) ⌝ }
-    ensures { λ r. ⌜ toldIn r (now (state .exit)) ≡ plans.answered (endpointOf (now (state .entry))) at (plans.sent (slotAt (endpointOf (now (state .entry))) at) AwaitsReply challenge) Nothing (plans.challengeOf (endpointOf (now (state .entry))) challenge) .told ⌝ }
-    ensures { λ _. ⌜ now (out .exit) ≡ written (plans.challengeOf (endpointOf (now (state .entry))) challenge) (now (out .entry)) ⌝ }
+    requires { ⌜ (at < 32) × Roomy (now out) × Whole (now state) ⌝ }
+    ensures { λ r. ⌜ Does (plans.answered (endpointOf (now (state .entry))) at (plans.sent (slotAt (endpointOf (now (state .entry))) at) AwaitsReply challenge) Nothing (plans.challengeOf (endpointOf (now (state .entry))) challenge)) r (now (state .exit)) (now (out .entry)) (now (out .exit)) ⌝ }
 {
-    let own = own_name(&state[..]);
+    let own = own_part(&state[..]);
     let flags = own_flags(&state[..]);
     let creation = own_creation(&state[..]);
     let count = send_challenge(out, 0, own, flags, challenge, creation);
@@ -190,9 +184,8 @@ fn challenge_peer(state: &mut [u8], at: usize, challenge: u32, out: &mut [u8]) -
 
 // By the word that answers `alive`.
 fn on_alive(state: &mut [u8], at: usize, word: &[u8], challenge: u32, out: &mut [u8]) -> Answer
-    requires { ⌜ (at < 32) × (300 ≤ length (now out)) × (length (now state) ≡ 9004) ⌝ }
-    ensures { λ r. ⌜ ((k : List ℕ) → toldIn r (now (state .exit)) ≡ plans.concluded k k (endpointOf (now (state .entry))) at (spec.onAlive (endpointOf (now (state .entry))) (slotAt (endpointOf (now (state .entry))) at) challenge (now (word .entry))) .told) ⌝ }
-    ensures { λ _. ⌜ ((k : List ℕ) → now (out .exit) ≡ written (plans.concluded k k (endpointOf (now (state .entry))) at (spec.onAlive (endpointOf (now (state .entry))) (slotAt (endpointOf (now (state .entry))) at) challenge (now (word .entry))) .bytes) (now (out .entry))) ⌝ }
+    requires { ⌜ (at < 32) × Roomy (now out) × Whole (now state) ⌝ }
+    ensures { λ r. ⌜ ConcludesAlike at (λ g. spec.onAlive g (slotAt g at) challenge (now (word .entry))) (now (state .entry)) r (now (state .exit)) (now (out .entry)) (now (out .exit)) ⌝ }
 {
     if wire::same_bytes(word, b"true") {
         return challenge_peer(state, at, challenge, out);
@@ -212,9 +205,8 @@ pub fn recv_alive(
     challenge: u32,
     out: &mut [u8],
 ) -> Answer
-    requires { ⌜ (at < 32) × (1 ≤ length (now body)) × (300 ≤ length (now out)) × (length (now state) ≡ 9004) ⌝ }
-    ensures { λ r. ⌜ ((k : List ℕ) → toldIn r (now (state .exit)) ≡ plans.concluded k k (endpointOf (now (state .entry))) at (plans.stagePlan (spec.expectAlive (endpointOf (now (state .entry))) (slotAt (endpointOf (now (state .entry))) at) challenge (now (body .entry)))) .told) ⌝ }
-    ensures { λ _. ⌜ ((k : List ℕ) → now (out .exit) ≡ written (plans.concluded k k (endpointOf (now (state .entry))) at (plans.stagePlan (spec.expectAlive (endpointOf (now (state .entry))) (slotAt (endpointOf (now (state .entry))) at) challenge (now (body .entry)))) .bytes) (now (out .entry))) ⌝ }
+    requires { ⌜ (at < 32) × (1 ≤ length (now body)) × Roomy (now out) × Whole (now state) ⌝ }
+    ensures { λ r. ⌜ ConcludesAlike at (λ g. plans.stagePlan (spec.expectAlive g (slotAt g at) challenge (now (body .entry)))) (now (state .entry)) r (now (state .exit)) (now (out .entry)) (now (out .exit)) ⌝ }
 {
     match check_status(body) {
         Check::Refuse(why) => refuse(state, at, why),
@@ -222,23 +214,13 @@ pub fn recv_alive(
     }
 }
 
-// The lowest slot that is sought by a held name, or 32.
-fn find_held(state: &[u8], what: Sought, name: Name) -> usize
-    requires { ⌜ length (now state) ≡ 9004 ⌝ }
-    ensures { λ r. ⌜ r ≡ lowest what (nameBytes name) (endpointOf (now (state .entry))) ⌝ }
+// The slot is connected, and an older connected slot of its peer is freed.
+fn connect(state: &mut [u8], at: usize, count: usize) -> Answer
+    requires { ⌜ (at < 32) × Whole (now state) ⌝ }
+    ensures { λ r. ⌜ Tells (plans.answers (freeOther (endpointOf (now (state .entry))) (spec.older (endpointOf (now (state .entry))) (slotAt (endpointOf (now (state .entry))) at))) at (plans.moved (slotAt (endpointOf (now (state .entry))) at) Connected) (spec.older (endpointOf (now (state .entry))) (slotAt (endpointOf (now (state .entry))) at)) count) r (now (state .exit)) ⌝ }
 {
-    let b = name.array();
-    let l = name.size();
-    find_in(state, what, &b[..l])
-}
-
-// The slot s is connected, and an older connected slot of its peer is freed.
-fn connect(state: &mut [u8], at: usize, s: Slot, count: usize) -> Answer
-    requires { ⌜ (at < 32) × (length (now state) ≡ 9004) ⌝ }
-    ensures { λ r. ⌜ toldIn r (now (state .exit)) ≡ plans.answers (freeOther (endpointOf (now (state .entry))) (spec.older (endpointOf (now (state .entry))) s)) at (plans.moved s Connected) (spec.older (endpointOf (now (state .entry))) s) count ⌝ }
-{
-    let n = s.name;
-    let old = find_held(&state[..], Sought::ConnectedTo, n);
+    let old = find(&state[..], Sought::ConnectedTo, peer_at(&state[..], at));
+    let s = slot(&state[..], at);
     let t = sent(s, Stage::Connected, s.challenge);
     if old < 32 {
         without(state, old);
@@ -255,9 +237,8 @@ fn on_challenge_reply(
     cookie: &[u8],
     out: &mut [u8],
 ) -> Answer
-    requires { ⌜ (at < 32) × (length (now body) ≡ 21) × (length (now cookie) ≤ 255) × (300 ≤ length (now out)) × (length (now state) ≡ 9004) ⌝ }
-    ensures { λ r. ⌜ toldIn r (now (state .exit)) ≡ plans.concluded (now (cookie .entry)) (now (cookie .entry)) (endpointOf (now (state .entry))) at (spec.expectReply (endpointOf (now (state .entry))) (slotAt (endpointOf (now (state .entry))) at) (now (body .entry)) .rule) .told ⌝ }
-    ensures { λ _. ⌜ now (out .exit) ≡ written (plans.concluded (now (cookie .entry)) (now (cookie .entry)) (endpointOf (now (state .entry))) at (spec.expectReply (endpointOf (now (state .entry))) (slotAt (endpointOf (now (state .entry))) at) (now (body .entry)) .rule) .bytes) (now (out .entry)) ⌝ }
+    requires { ⌜ (at < 32) × (length (now body) ≡ 21) × (length (now cookie) ≤ 255) × Roomy (now out) × Whole (now state) ⌝ }
+    ensures { λ r. ⌜ Concludes (now (cookie .entry)) at (λ g. spec.expectReply g (slotAt g at) (now (body .entry)) .rule) (now (state .entry)) r (now (state .exit)) (now (out .entry)) (now (out .exit)) ⌝ }
 {
     let s = slot(&state[..], at);
     if !is_digest(wire::get_part(body, 5, 16), s.challenge, cookie) {
@@ -265,7 +246,7 @@ fn on_challenge_reply(
     }
     let d = digest(wire::get32(body, 1), cookie);
     let count = send_challenge_ack(out, &d);
-    connect(state, at, s, count)
+    connect(state, at, count)
 }
 
 // Awaits reply.
@@ -276,9 +257,8 @@ pub fn recv_challenge_reply(
     cookie: &[u8],
     out: &mut [u8],
 ) -> Answer
-    requires { ⌜ (at < 32) × (1 ≤ length (now body)) × (length (now cookie) ≤ 255) × (300 ≤ length (now out)) × (length (now state) ≡ 9004) ⌝ }
-    ensures { λ r. ⌜ toldIn r (now (state .exit)) ≡ plans.concluded (now (cookie .entry)) (now (cookie .entry)) (endpointOf (now (state .entry))) at (plans.stagePlan (spec.expectReply (endpointOf (now (state .entry))) (slotAt (endpointOf (now (state .entry))) at) (now (body .entry)))) .told ⌝ }
-    ensures { λ _. ⌜ now (out .exit) ≡ written (plans.concluded (now (cookie .entry)) (now (cookie .entry)) (endpointOf (now (state .entry))) at (plans.stagePlan (spec.expectReply (endpointOf (now (state .entry))) (slotAt (endpointOf (now (state .entry))) at) (now (body .entry)))) .bytes) (now (out .entry)) ⌝ }
+    requires { ⌜ (at < 32) × (1 ≤ length (now body)) × (length (now cookie) ≤ 255) × Roomy (now out) × Whole (now state) ⌝ }
+    ensures { λ r. ⌜ Concludes (now (cookie .entry)) at (λ g. plans.stagePlan (spec.expectReply g (slotAt g at) (now (body .entry)))) (now (state .entry)) r (now (state .exit)) (now (out .entry)) (now (out .exit)) ⌝ }
 {
     match check_exact(body, 114, 21) {
         Check::Refuse(why) => refuse(state, at, why),

@@ -11,17 +11,17 @@ use handshake_rules::endpoint::Slot;
 use handshake_rules::endpoint::Stage;
 use handshake_rules::refusal::Check;
 use handshake_rules::refusal::Refusal;
-use handshake_state::endpoint::answer;
-use handshake_state::endpoint::refuse;
-use handshake_state::endpoint::sent;
-use handshake_state::endpoint::slot;
-use handshake_state::status::say;
-ghost use Rattle.handshake_state.specs.Lent.{endpointOf, toldIn};
+use handshake_state::answers::answer;
+use handshake_state::answers::refuse;
+use handshake_state::answers::say;
+use handshake_state::slots::peer_at;
+use handshake_state::slots::sent;
+use handshake_state::slots::slot;
+ghost use Rattle.handshake_state.specs.Bytes.{Whole, endpointOf, Tells, Concludes, ConcludesAlike};
+ghost use Rattle.handshake_rules.specs.Calls.{Roomy};
 ghost use mathlib.Core.Path.{_≡_};
-ghost use Prim.Native.Nat.{ℕ, _+_, _≤_, _<_};
-ghost use mathlib.Core.List.{List};
+ghost use Prim.Native.Nat.{_≤_, _<_};
 ghost use lib.ListN.{length};
-ghost use Rattle.wire.specs.Output.{written};
 ghost use Rattle.handshake_rules.specs.Endpoint.{slotAt};
 ghost use Rattle.handshake_rules.specs.Plans as plans;
 ghost use Rattle.handshake_rules.specs.Connecting as spec;
@@ -49,9 +49,8 @@ fn reaction_to(word: &[u8]) -> Reaction
 
 // By the status word.
 fn on_status(state: &mut [u8], at: usize, word: &[u8], out: &mut [u8]) -> Answer
-    requires { ⌜ (at < 32) × (300 ≤ length (now out)) × (length (now state) ≡ 9004) ⌝ }
-    ensures { λ r. ⌜ ((k : List ℕ) → toldIn r (now (state .exit)) ≡ plans.concluded k k (endpointOf (now (state .entry))) at (spec.onStatus (slotAt (endpointOf (now (state .entry))) at) (spec.reaction (now (word .entry)))) .told) ⌝ }
-    ensures { λ _. ⌜ ((k : List ℕ) → now (out .exit) ≡ written (plans.concluded k k (endpointOf (now (state .entry))) at (spec.onStatus (slotAt (endpointOf (now (state .entry))) at) (spec.reaction (now (word .entry)))) .bytes) (now (out .entry))) ⌝ }
+    requires { ⌜ (at < 32) × Roomy (now out) × Whole (now state) ⌝ }
+    ensures { λ r. ⌜ ConcludesAlike at (λ g. spec.onStatus (slotAt g at) (spec.reaction (now (word .entry)))) (now (state .entry)) r (now (state .exit)) (now (out .entry)) (now (out .exit)) ⌝ }
 {
     let s = slot(&state[..], at);
     let t = sent(s, Stage::AwaitsChallenge, s.challenge);
@@ -65,9 +64,8 @@ fn on_status(state: &mut [u8], at: usize, word: &[u8], out: &mut [u8]) -> Answer
 
 // Awaits status.
 pub fn recv_status(state: &mut [u8], at: usize, body: &[u8], out: &mut [u8]) -> Answer
-    requires { ⌜ (at < 32) × (1 ≤ length (now body)) × (300 ≤ length (now out)) × (length (now state) ≡ 9004) ⌝ }
-    ensures { λ r. ⌜ ((k : List ℕ) → toldIn r (now (state .exit)) ≡ plans.concluded k k (endpointOf (now (state .entry))) at (plans.stagePlan (spec.expectStatus (slotAt (endpointOf (now (state .entry))) at) (now (body .entry)))) .told) ⌝ }
-    ensures { λ _. ⌜ ((k : List ℕ) → now (out .exit) ≡ written (plans.concluded k k (endpointOf (now (state .entry))) at (plans.stagePlan (spec.expectStatus (slotAt (endpointOf (now (state .entry))) at) (now (body .entry)))) .bytes) (now (out .entry))) ⌝ }
+    requires { ⌜ (at < 32) × (1 ≤ length (now body)) × Roomy (now out) × Whole (now state) ⌝ }
+    ensures { λ r. ⌜ ConcludesAlike at (λ g. plans.stagePlan (spec.expectStatus (slotAt g at) (now (body .entry)))) (now (state .entry)) r (now (state .exit)) (now (out .entry)) (now (out .exit)) ⌝ }
 {
     match check_status(body) {
         Check::Refuse(why) => refuse(state, at, why),
@@ -85,9 +83,8 @@ fn on_challenge(
     cookie: &[u8],
     out: &mut [u8],
 ) -> Answer
-    requires { ⌜ (at < 32) × (19 ≤ length (now body)) × (length (now cookie) ≤ 255) × (300 ≤ length (now out)) × (length (now state) ≡ 9004) ⌝ }
-    ensures { λ r. ⌜ toldIn r (now (state .exit)) ≡ plans.concluded (now (cookie .entry)) (now (cookie .entry)) (endpointOf (now (state .entry))) at (spec.expectChallenge s challenge (now (body .entry)) .rule) .told ⌝ }
-    ensures { λ _. ⌜ now (out .exit) ≡ written (plans.concluded (now (cookie .entry)) (now (cookie .entry)) (endpointOf (now (state .entry))) at (spec.expectChallenge s challenge (now (body .entry)) .rule) .bytes) (now (out .entry)) ⌝ }
+    requires { ⌜ (at < 32) × (19 ≤ length (now body)) × (length (now cookie) ≤ 255) × Roomy (now out) × Whole (now state) ⌝ }
+    ensures { λ r. ⌜ Concludes (now (cookie .entry)) at (λ g. spec.expectChallenge s challenge (now (body .entry)) .rule) (now (state .entry)) r (now (state .exit)) (now (out .entry)) (now (out .exit)) ⌝ }
 {
     let d = digest(wire::get32(body, 9), cookie);
     let count = send_challenge_reply(out, challenge, &d);
@@ -113,13 +110,11 @@ pub fn recv_challenge(
     cookie: &[u8],
     out: &mut [u8],
 ) -> Answer
-    requires { ⌜ (at < 32) × (1 ≤ length (now body)) × (length (now cookie) ≤ 255) × (300 ≤ length (now out)) × (length (now state) ≡ 9004) ⌝ }
-    ensures { λ r. ⌜ toldIn r (now (state .exit)) ≡ plans.concluded (now (cookie .entry)) (now (cookie .entry)) (endpointOf (now (state .entry))) at (plans.stagePlan (spec.expectChallenge (slotAt (endpointOf (now (state .entry))) at) challenge (now (body .entry)))) .told ⌝ }
-    ensures { λ _. ⌜ now (out .exit) ≡ written (plans.concluded (now (cookie .entry)) (now (cookie .entry)) (endpointOf (now (state .entry))) at (plans.stagePlan (spec.expectChallenge (slotAt (endpointOf (now (state .entry))) at) challenge (now (body .entry)))) .bytes) (now (out .entry)) ⌝ }
+    requires { ⌜ (at < 32) × (1 ≤ length (now body)) × (length (now cookie) ≤ 255) × Roomy (now out) × Whole (now state) ⌝ }
+    ensures { λ r. ⌜ Concludes (now (cookie .entry)) at (λ g. plans.stagePlan (spec.expectChallenge (slotAt g at) challenge (now (body .entry)))) (now (state .entry)) r (now (state .exit)) (now (out .entry)) (now (out .exit)) ⌝ }
 {
     let s = slot(&state[..], at);
-    let peer = s.name;
-    match check_challenge(body, peer) {
+    match check_challenge(body, peer_at(&state[..], at)) {
         Check::Refuse(why) => refuse(state, at, why),
         Check::Pass => on_challenge(state, at, s, body, challenge, cookie, out),
     }
@@ -127,8 +122,8 @@ pub fn recv_challenge(
 
 // An acknowledgement of the right length: its digest must be that of the challenge that we sent.
 fn on_challenge_ack(state: &mut [u8], at: usize, body: &[u8], cookie: &[u8]) -> Answer
-    requires { ⌜ (at < 32) × (length (now body) ≡ 17) × (length (now cookie) ≤ 255) × (length (now state) ≡ 9004) ⌝ }
-    ensures { λ r. ⌜ toldIn r (now (state .exit)) ≡ plans.concluded (now (cookie .entry)) (now (cookie .entry)) (endpointOf (now (state .entry))) at (spec.expectAck (slotAt (endpointOf (now (state .entry))) at) (now (body .entry)) .rule) .told ⌝ }
+    requires { ⌜ (at < 32) × (length (now body) ≡ 17) × (length (now cookie) ≤ 255) × Whole (now state) ⌝ }
+    ensures { λ r. ⌜ Tells (plans.concluded (now (cookie .entry)) (now (cookie .entry)) (endpointOf (now (state .entry))) at (spec.expectAck (slotAt (endpointOf (now (state .entry))) at) (now (body .entry)) .rule) .told) r (now (state .exit)) ⌝ }
 {
     let s = slot(&state[..], at);
     if !is_digest(wire::get_part(body, 1, 16), s.challenge, cookie) {
@@ -140,8 +135,8 @@ fn on_challenge_ack(state: &mut [u8], at: usize, body: &[u8], cookie: &[u8]) -> 
 
 // Awaits acknowledgement; writes nothing.
 pub fn recv_challenge_ack(state: &mut [u8], at: usize, body: &[u8], cookie: &[u8]) -> Answer
-    requires { ⌜ (at < 32) × (1 ≤ length (now body)) × (length (now cookie) ≤ 255) × (length (now state) ≡ 9004) ⌝ }
-    ensures { λ r. ⌜ toldIn r (now (state .exit)) ≡ plans.concluded (now (cookie .entry)) (now (cookie .entry)) (endpointOf (now (state .entry))) at (plans.stagePlan (spec.expectAck (slotAt (endpointOf (now (state .entry))) at) (now (body .entry)))) .told ⌝ }
+    requires { ⌜ (at < 32) × (1 ≤ length (now body)) × (length (now cookie) ≤ 255) × Whole (now state) ⌝ }
+    ensures { λ r. ⌜ Tells (plans.concluded (now (cookie .entry)) (now (cookie .entry)) (endpointOf (now (state .entry))) at (plans.stagePlan (spec.expectAck (slotAt (endpointOf (now (state .entry))) at) (now (body .entry)))) .told) r (now (state .exit)) ⌝ }
 {
     match check_exact(body, 97, 17) {
         Check::Refuse(why) => refuse(state, at, why),

@@ -1,11 +1,9 @@
 use crate::flags::good_flags;
 use handshake_rules::refusal::Check;
 use handshake_rules::refusal::Refusal;
-use names::Name;
 ghost use mathlib.Core.Path.{_≡_};
 ghost use Prim.Native.Nat.{_≤_};
 ghost use lib.ListN.{length};
-ghost use Rattle.names.specs.Held.{nameBytes};
 ghost use Rattle.handshake_rules.specs.Refusals.{checked};
 ghost use Rattle.handshake_rules.specs.Forms.{formTests, nameForm, challengeForm, statusForm, exactForm};
 
@@ -37,9 +35,9 @@ pub fn check_name(body: &[u8]) -> Check
 }
 
 // The name must be the one that we started towards.
-pub fn check_challenge(body: &[u8], peer: Name) -> Check
+pub fn check_challenge(body: &[u8], peer: &[u8]) -> Check
     requires { ⌜ 1 ≤ length (now body) ⌝ }
-    ensures { λ r. ⌜ r ≡ checked (formTests (challengeForm (nameBytes peer) (now (body .entry)))) ⌝ }
+    ensures { λ r. ⌜ r ≡ checked (formTests (challengeForm (now (peer .entry)) (now (body .entry)))) ⌝ }
 {
     if wire::get8(body, 0) != 78 {
         return Check::Refuse(Refusal::UnknownTag);
@@ -56,7 +54,7 @@ pub fn check_challenge(body: &[u8], peer: Name) -> Check
     if !names::is_full_name(name) {
         return Check::Refuse(Refusal::BadName);
     }
-    if !peer.is(name) {
+    if !wire::same_bytes(peer, name) {
         return Check::Refuse(Refusal::BadName);
     }
     if !good_flags(wire::get64(body, 1)) {

@@ -1,4 +1,3 @@
-use names::Name;
 ghost use mathlib.Core.Path.{_≡_};
 ghost use Prim.Native.Nat.{_+_, _≤_};
 ghost use mathlib.Core.List.{[], _∷_, _++_};
@@ -6,102 +5,48 @@ ghost use lib.ListN.{length};
 ghost use Rattle.wire.specs.Number.{be};
 ghost use Rattle.wire.specs.Output.{overwrite, written};
 ghost use Rattle.wire.specs.Layout.{encode, number, int};
-ghost use Rattle.names.specs.Held.{nameBytes};
+ghost use Rattle.handshake_rules.specs.Calls.{Roomy};
 ghost use Rattle.handshake_rules.specs.Messages.{beforeName, beforeChallenger, nameMessage, challengeMessage, statusMessage, replyMessage, ackMessage};
 
 // Messages as they are written (01, The gate: "Messages (body bytes)"), each as a whole frame.
 //
-// A header is one array of bytes; a name, a word or a digest follows it.
+// A header is an array of bytes, written a field a line; a name, a word or a digest follows it.
 
 fn name_header(flags: u64, creation: u32, n: u8) -> [u8; 17]
     ensures { λ r. ⌜ r ≡ be 2 (15 + n) ++ encode (beforeName ++ (number 2 ∷ [])) (int 78 ∷ int flags ∷ int creation ∷ int n ∷ []) ⌝ }
 {
-    let m = n as u16;
-    let l = 15 + m;
-    let f1 = flags / 256;
-    let f2 = f1 / 256;
-    let f3 = f2 / 256;
-    let f4 = f3 / 256;
-    let f5 = f4 / 256;
-    let f6 = f5 / 256;
-    let f7 = f6 / 256;
-    let c1 = creation / 256;
-    let c2 = c1 / 256;
-    let c3 = c2 / 256;
-    [
-        (l / 256 % 256) as u8,
-        (l % 256) as u8,
-        78,
-        (f7 % 256) as u8,
-        (f6 % 256) as u8,
-        (f5 % 256) as u8,
-        (f4 % 256) as u8,
-        (f3 % 256) as u8,
-        (f2 % 256) as u8,
-        (f1 % 256) as u8,
-        (flags % 256) as u8,
-        (c3 % 256) as u8,
-        (c2 % 256) as u8,
-        (c1 % 256) as u8,
-        (creation % 256) as u8,
-        (m / 256 % 256) as u8,
-        (m % 256) as u8,
-    ]
+    let mut h = [0u8; 17];
+    wire::put16(&mut h, 0, 15 + n as u16);
+    wire::put8(&mut h, 2, 78);
+    wire::put64(&mut h, 3, flags);
+    wire::put32(&mut h, 11, creation);
+    wire::put16(&mut h, 15, n as u16);
+    h
 }
 
 fn challenge_header(flags: u64, challenge: u32, creation: u32, n: u8) -> [u8; 21]
     ensures { λ r. ⌜ r ≡ be 2 (19 + n) ++ encode (beforeChallenger ++ (number 2 ∷ [])) (int 78 ∷ int flags ∷ int challenge ∷ int creation ∷ int n ∷ []) ⌝ }
 {
-    let m = n as u16;
-    let l = 19 + m;
-    let f1 = flags / 256;
-    let f2 = f1 / 256;
-    let f3 = f2 / 256;
-    let f4 = f3 / 256;
-    let f5 = f4 / 256;
-    let f6 = f5 / 256;
-    let f7 = f6 / 256;
-    let h1 = challenge / 256;
-    let h2 = h1 / 256;
-    let h3 = h2 / 256;
-    let c1 = creation / 256;
-    let c2 = c1 / 256;
-    let c3 = c2 / 256;
-    [
-        (l / 256 % 256) as u8,
-        (l % 256) as u8,
-        78,
-        (f7 % 256) as u8,
-        (f6 % 256) as u8,
-        (f5 % 256) as u8,
-        (f4 % 256) as u8,
-        (f3 % 256) as u8,
-        (f2 % 256) as u8,
-        (f1 % 256) as u8,
-        (flags % 256) as u8,
-        (h3 % 256) as u8,
-        (h2 % 256) as u8,
-        (h1 % 256) as u8,
-        (challenge % 256) as u8,
-        (c3 % 256) as u8,
-        (c2 % 256) as u8,
-        (c1 % 256) as u8,
-        (creation % 256) as u8,
-        (m / 256 % 256) as u8,
-        (m % 256) as u8,
-    ]
+    let mut h = [0u8; 21];
+    wire::put16(&mut h, 0, 19 + n as u16);
+    wire::put8(&mut h, 2, 78);
+    wire::put64(&mut h, 3, flags);
+    wire::put32(&mut h, 11, challenge);
+    wire::put32(&mut h, 15, creation);
+    wire::put16(&mut h, 19, n as u16);
+    h
 }
 
 // Writes the name message from the first byte on, and tells its length.
-pub fn send_name(out: &mut [u8], name: Name, flags: u64, creation: u32) -> usize
-    requires { ⌜ 300 ≤ length (now out) ⌝ }
-    ensures { λ r. ⌜ r ≡ length (nameMessage flags creation (nameBytes name)) ⌝ }
-    ensures { λ _. ⌜ now (out .exit) ≡ written (nameMessage flags creation (nameBytes name)) (now (out .entry)) ⌝ }
+pub fn send_name(out: &mut [u8], name: &[u8], flags: u64, creation: u32) -> usize
+    requires { ⌜ (length (now name) ≤ 255) × Roomy (now out) ⌝ }
+    ensures { λ r. ⌜ r ≡ length (nameMessage flags creation (now (name .entry))) ⌝ }
+    ensures { λ _. ⌜ now (out .exit) ≡ written (nameMessage flags creation (now (name .entry))) (now (out .entry)) ⌝ }
 {
-    let n = name.size();
+    let n = name.len();
     let h = name_header(flags, creation, n as u8);
     wire::put_bytes(out, 0, &h);
-    name.put(out, 17);
+    wire::put_bytes(out, 17, name);
     17 + n
 }
 
@@ -109,25 +54,25 @@ pub fn send_name(out: &mut [u8], name: Name, flags: u64, creation: u32) -> usize
 pub fn send_challenge(
     out: &mut [u8],
     at: usize,
-    name: Name,
+    name: &[u8],
     flags: u64,
     challenge: u32,
     creation: u32,
 ) -> usize
-    requires { ⌜ (at ≤ 18) × (300 ≤ length (now out)) ⌝ }
-    ensures { λ r. ⌜ r ≡ length (challengeMessage flags challenge creation (nameBytes name)) ⌝ }
-    ensures { λ _. ⌜ now (out .exit) ≡ overwrite (now (out .entry)) at (challengeMessage flags challenge creation (nameBytes name)) ⌝ }
+    requires { ⌜ (at ≤ 18) × (length (now name) ≤ 255) × Roomy (now out) ⌝ }
+    ensures { λ r. ⌜ r ≡ length (challengeMessage flags challenge creation (now (name .entry))) ⌝ }
+    ensures { λ _. ⌜ now (out .exit) ≡ overwrite (now (out .entry)) at (challengeMessage flags challenge creation (now (name .entry))) ⌝ }
 {
-    let n = name.size();
+    let n = name.len();
     let h = challenge_header(flags, challenge, creation, n as u8);
     wire::put_bytes(out, at, &h);
-    name.put(out, at + 21);
+    wire::put_bytes(out, at + 21, name);
     21 + n
 }
 
 // Writes a status from the first byte on, and tells its length.
 pub fn send_status(out: &mut [u8], word: &[u8]) -> usize
-    requires { ⌜ (length (now word) ≤ 15) × (300 ≤ length (now out)) ⌝ }
+    requires { ⌜ (length (now word) ≤ 15) × Roomy (now out) ⌝ }
     ensures { λ r. ⌜ r ≡ length (statusMessage (now (word .entry))) ⌝ }
     ensures { λ _. ⌜ now (out .exit) ≡ written (statusMessage (now (word .entry))) (now (out .entry)) ⌝ }
 {
@@ -139,24 +84,23 @@ pub fn send_status(out: &mut [u8], word: &[u8]) -> usize
     3 + n
 }
 
+fn reply_header(challenge: u32) -> [u8; 7]
+    ensures { λ r. ⌜ r ≡ be 2 21 ++ 114 ∷ be 4 challenge ⌝ }
+{
+    let mut h = [0u8; 7];
+    wire::put16(&mut h, 0, 21);
+    wire::put8(&mut h, 2, 114);
+    wire::put32(&mut h, 3, challenge);
+    h
+}
+
 // Writes the reply with our challenge and the digest of the peer's, and tells its length.
 pub fn send_challenge_reply(out: &mut [u8], challenge: u32, digest: &[u8]) -> usize
-    requires { ⌜ (length (now digest) ≡ 16) × (300 ≤ length (now out)) ⌝ }
+    requires { ⌜ (length (now digest) ≡ 16) × Roomy (now out) ⌝ }
     ensures { λ r. ⌜ r ≡ length (replyMessage challenge (now (digest .entry))) ⌝ }
     ensures { λ _. ⌜ now (out .exit) ≡ written (replyMessage challenge (now (digest .entry))) (now (out .entry)) ⌝ }
 {
-    let c1 = challenge / 256;
-    let c2 = c1 / 256;
-    let c3 = c2 / 256;
-    let h = [
-        0,
-        21,
-        114,
-        (c3 % 256) as u8,
-        (c2 % 256) as u8,
-        (c1 % 256) as u8,
-        (challenge % 256) as u8,
-    ];
+    let h = reply_header(challenge);
     wire::put_bytes(out, 0, &h);
     wire::put_bytes(out, 7, digest);
     23
@@ -164,7 +108,7 @@ pub fn send_challenge_reply(out: &mut [u8], challenge: u32, digest: &[u8]) -> us
 
 // Writes the acknowledgement with the digest of the peer's challenge, and tells its length.
 pub fn send_challenge_ack(out: &mut [u8], digest: &[u8]) -> usize
-    requires { ⌜ (length (now digest) ≡ 16) × (300 ≤ length (now out)) ⌝ }
+    requires { ⌜ (length (now digest) ≡ 16) × Roomy (now out) ⌝ }
     ensures { λ r. ⌜ r ≡ length (ackMessage (now (digest .entry))) ⌝ }
     ensures { λ _. ⌜ now (out .exit) ≡ written (ackMessage (now (digest .entry))) (now (out .entry)) ⌝ }
 {

@@ -17,12 +17,12 @@ use Rattle.handshake_rules.specs.declared.endpoint.Making.the-variants.{
 use Rattle.handshake_rules.specs.State.{Made}
 use Rattle.handshake_rules.specs.Refusals.{checked, unless}
 use Rattle.handshake_rules.specs.Flags.{goodFlags}
-use Rattle.handshake_rules.specs.Endpoint.{storedOf, freeSlot, fresh, put, freeOther}
+use Rattle.handshake_rules.specs.Endpoint.{freeSlot, fresh, put, freeOther}
 use Rattle.handshake_rules.specs.Cookie.{Cookies}
 use Rattle.handshake_rules.specs.Plans.{stop, go, Plan, sure, proven}
 use Rattle.handshake_rules.specs.Calls.{newTests, notMade, newOf, awaited}
-use Rattle.handshake_rules.specs.Runs.{Call, next, Asked, ends}
-use Rattle.handshake_rules.specs.Claims.{MadeOf, KeptWhole, MadeFresh}
+use Rattle.handshake_rules.specs.Runs.{Call, next, Asked, ends, MadeOf}
+use Rattle.handshake_rules.specs.Claims.{KeptWhole, MadeFresh}
 use Rattle.handshake_rules.proofs.CheckLaws.{none-holds, not-not}
 use Rattle.handshake_rules.proofs.PlanLaws.{Does, after-call}
 
@@ -37,7 +37,7 @@ alike : (g : Endpoint) → Alike g g
 alike g = record { name = refl; flags = refl; creation = refl; slots = refl }
 
 alike-put : (g h : Endpoint) (s : ℕ) (x : Slot) → Alike g h → Alike g (put h s x)
-alike-put g h s x o = record { name = o .name; flags = o .flags; creation = o .creation; slots = length-set (h .slots) s (storedOf x) ∙ o .slots }
+alike-put g h s x o = record { name = o .name; flags = o .flags; creation = o .creation; slots = length-set (h .slots) s x ∙ o .slots }
 
 pub alike-other : (g : Endpoint) (o : Freed) → Alike g (freeOther g o)
 alike-other g Nothing = alike g

@@ -1,13 +1,13 @@
 -- A connected slot stays as it is, unless it is closed, or a right digest is shown on another slot of the same peer. Assumes nothing.
-use Prim.Native.Nat.{ℕ}
+use Prim.Native.Nat.{ℕ, _<_}
 use mathlib.Core.Path.{_≡_, refl, sym, _∙_, ap, subst}
-use mathlib.Core.Logic.{_⊎_, inl, inr, ⊎-map, ⊎-elim}
-use mathlib.Core.Bool.{Bool, true, false}
+use mathlib.Core.Logic.{_⊎_, inl, ⊎-map, ⊎-elim}
+use mathlib.Core.Bool.{Bool, true, false, _&&_}
 use mathlib.Core.List.{List, []}
 use native.Mathlib.Omega.{arith}
 use lib.ListN.{length}
 use lib.Dec.{eqb, leb, ltb}
-use borrow.Author.Tests.{eqb-true, eqb-false, lt-ltb}
+use borrow.Author.Tests.{eqb-true, eqb-false, lt-ltb, ltb-true}
 use Rattle.wire.specs.Run.{sameBytes}
 use Rattle.wire.specs.Frame.{body}
 use Rattle.wire.proofs.RunLaws.{same-decides, and-left}
@@ -34,71 +34,95 @@ use Rattle.handshake_rules.specs.Accepting.{greeting, onName, older}
 use Rattle.handshake_rules.specs.Connecting.{reaction, onStatus}
 use Rattle.handshake_rules.specs.Calls.{opened, startTests, arriveTests, closeTests, begun, arrived, silent, kept, startOf, arriveOf, closeOf, expected, awaited, earlyTests, messageTests, plan, messageOf}
 use Rattle.handshake_rules.specs.Runs.{Call, Start, Arrive, Close, Message, step, next, ends}
-use Rattle.handshake_rules.specs.Claims.{Carries, Shown, EndedBy, Lasting, peer, kindOf}
+use Rattle.handshake_rules.specs.SlotClaims.{Carries, Shown, EndedBy, Lasting, peer, kindOf}
 use Rattle.handshake_rules.proofs.CheckLaws.{not-not, unless-elim}
 use Rattle.handshake_rules.proofs.SlotLaws.{put-at, found, both-true}
 use Rattle.handshake_rules.proofs.PlanLaws.{Sane, sane, either}
 use Rattle.handshake_rules.proofs.StageLaws.{attempt-at, message-refused}
 use Rattle.handshake_rules.proofs.Kept.{kept-whole}
 
--- ---- which other slot a plan frees: our own attempt, or, by the digest, a slot of the same peer
+-- ---- which other slot a plan frees: our own attempt, or, by the digest, a connected slot of the same peer; sl is an accepted one
 
-abbrev Frees : Endpoint → Slot → Plan → Type 0
-Frees g sl (sure (stop r)) = Unit
-Frees g sl (sure (go a)) = (o : ℕ) → a .other ≡ At o → kindOf (slotAt g o) ≡ 2
-Frees g sl (proven c d a) = (o : ℕ) → a .other ≡ At o → peer (slotAt g o) ≡ peer sl
+pub record Frees (g : Endpoint) (sl : Slot) (k o : ℕ) : Type 0 where
+  pub within : o < 32
+  pub kind : kindOf (slotAt g o) ≡ k
+  pub here : kindOf sl ≡ 1
+
+abbrev pub Freeing : Endpoint → Slot → Plan → Type 0
+Freeing g sl (sure (stop r)) = Unit
+Freeing g sl (sure (go a)) = (o : ℕ) → a .other ≡ At o → Frees g sl 2 o
+Freeing g sl (proven c d a) = (o : ℕ) → a .other ≡ At o → Frees g sl 3 o × (peer (slotAt g o) ≡ peer sl)
+
+-- what is found by kind and peer
+pub seen : (k : ℕ) (n : List ℕ) (y : Slot) → (eqb (kindOf y) k && sameBytes (peer y) n) ≡ true → (kindOf y ≡ k) × (peer y ≡ n)
+seen k n y e =
+    let b = both-true (eqb (kindOf y) k) (sameBytes (peer y) n) e in
+    (eqb-true (kindOf y) k (b .0), same-decides (peer y) n .0 (b .1))
 
 none-freed : (o : ℕ) → Nothing ≡ At o → ⊥
 none-freed o e = let z : _≡_ {A = ℕ} 0 1 = cc in omega arith
 
 module _ (g : Endpoint) (many : length (g .slots) ≡ 32) (sl : Slot) where
-  frees-on-name : (n : List ℕ) (f k c : ℕ) (x : Greeting) → greeting g n ≡ x → Frees g sl (onName g n f k c x)
-  frees-on-name n f k c NotAllowed e = λ o e. absurd (none-freed o e)
-  frees-on-name n f k c Nok e = λ o e. absurd (none-freed o e)
-  frees-on-name n f k c (OkSimultaneous mine) e =
+  frees-on-name : (n : List ℕ) (f k c : ℕ) (x : Greeting) → sl .stage ≡ AwaitsName → greeting g n ≡ x → Freeing g sl (onName g n f k c x)
+  frees-on-name n f k c NotAllowed st e = λ o e. absurd (none-freed o e)
+  frees-on-name n f k c Nok st e = λ o e. absurd (none-freed o e)
+  frees-on-name n f k c (OkSimultaneous mine) st e =
       λ o q.
       let at : mine ≡ o = cc in
       let h = attempt-at g n mine e in
       let t : isSlot (lowest StartedTo n g) ≡ true = ap isSlot (h .1) ∙ lt-ltb mine 32 (h .0) in
-      let k = eqb-true (kindOf (slotAt g (lowest StartedTo n g))) 2 (and-left _ _ (found g many StartedTo n t)) in
-      ap (λ (i : ℕ). kindOf (slotAt g i)) (sym (h .1 ∙ at)) ∙ k
-  frees-on-name n f k c Alive e = λ o e. absurd (none-freed o e)
-  frees-on-name n f k c Ok e = λ o e. absurd (none-freed o e)
+      let k = seen 2 n (slotAt g (lowest StartedTo n g)) (found g many StartedTo n t) in
+      record { within = omega (arith, h .0, at); kind = ap (λ (i : ℕ). kindOf (slotAt g i)) (sym (h .1 ∙ at)) ∙ k .0; here = ap kind st }
+  frees-on-name n f k c Alive st e = λ o e. absurd (none-freed o e)
+  frees-on-name n f k c Ok st e = λ o e. absurd (none-freed o e)
 
-  frees-older : (o : ℕ) → older g sl ≡ At o → peer (slotAt g o) ≡ peer sl
-  frees-older o = by (isSlot (lowest ConnectedTo (peer sl) g)) refl
+  frees-older : sl .stage ≡ AwaitsReply → (o : ℕ) → older g sl ≡ At o → Frees g sl 3 o × (peer (slotAt g o) ≡ peer sl)
+  frees-older st o = by (isSlot j) refl
     where
-      by : (b : Bool) → isSlot (lowest ConnectedTo (peer sl) g) ≡ b → freedAt (lowest ConnectedTo (peer sl) g) b ≡ At o → peer (slotAt g o) ≡ peer sl
+      j : ℕ
+      j = lowest ConnectedTo (peer sl) g
+
+      by : (b : Bool) → isSlot j ≡ b → freedAt j b ≡ At o → Frees g sl 3 o × (peer (slotAt g o) ≡ peer sl)
       by true t e =
-          let at : lowest ConnectedTo (peer sl) g ≡ o = cc in
-          ap (λ (i : ℕ). peer (slotAt g i)) (sym at)
-          ∙ same-decides (peer (slotAt g (lowest ConnectedTo (peer sl) g))) (peer sl) .0 (both-true (eqb (kindOf (slotAt g (lowest ConnectedTo (peer sl) g))) 3) (sameBytes (peer (slotAt g (lowest ConnectedTo (peer sl) g))) (peer sl)) (found g many ConnectedTo (peer sl) t) .1)
+          let at : j ≡ o = cc in
+          let b = seen 3 (peer sl) (slotAt g j) (found g many ConnectedTo (peer sl) t) in (
+            record {
+              within = omega (arith, at, ltb-true j 32 t);
+              kind = ap (λ (i : ℕ). kindOf (slotAt g i)) (sym at) ∙ b .0;
+              here = ap kind st;
+            },
+            ap (λ (i : ℕ). peer (slotAt g i)) (sym at) ∙ b .1,
+          )
       by false t e = let z : _≡_ {A = ℕ} 0 1 = cc in absurd (omega arith)
 
-  frees-status : (x : Reaction) → Frees g sl (onStatus sl x)
+  frees-status : (x : Reaction) → Freeing g sl (onStatus sl x)
   frees-status Proceed = λ o e. absurd (none-freed o e)
   frees-status Confirm = λ o e. absurd (none-freed o e)
   frees-status GiveUp = tt
   frees-status Unknown = tt
 
-  frees-rule : (c : ℕ) (b : List ℕ) (st : Stage) → Frees g sl (expected g sl c b st .rule)
+  pub frees-rule : (c : ℕ) (b : List ℕ) (st : Stage) → sl .stage ≡ st → Freeing g sl (expected g sl c b st .rule)
   unfolding expected
-  frees-rule c b Free = tt
-  frees-rule c b AwaitsName = frees-on-name (nameName b) (nameFlags b) (nameCreation b) c (greeting g (nameName b)) refl
-  frees-rule c b AwaitsAlive =
-      either (Frees g sl) (sameBytes (statusWord b) trueWord) _ _ (λ o e. absurd (none-freed o e))
-      (either (Frees g sl) (sameBytes (statusWord b) falseWord) _ _ (λ o e. absurd (none-freed o e)) tt)
-  frees-rule c b AwaitsReply = frees-older
-  frees-rule c b AwaitsStatus = frees-status (reaction (statusWord b))
-  frees-rule c b AwaitsChallenge = λ o e. absurd (none-freed o e)
-  frees-rule c b AwaitsAck = λ o e. absurd (none-freed o e)
-  frees-rule c b Connected = tt
+  frees-rule c b Free e = tt
+  frees-rule c b AwaitsName e = frees-on-name (nameName b) (nameFlags b) (nameCreation b) c (greeting g (nameName b)) e refl
+  frees-rule c b AwaitsAlive e =
+      either (Freeing g sl) (sameBytes (statusWord b) trueWord) _ _ (λ o e. absurd (none-freed o e))
+      (either (Freeing g sl) (sameBytes (statusWord b) falseWord) _ _ (λ o e. absurd (none-freed o e)) tt)
+  frees-rule c b AwaitsReply e = frees-older e
+  frees-rule c b AwaitsStatus e = frees-status (reaction (statusWord b))
+  frees-rule c b AwaitsChallenge e = λ o e. absurd (none-freed o e)
+  frees-rule c b AwaitsAck e = λ o e. absurd (none-freed o e)
+  frees-rule c b Connected e = tt
 
 -- ---- one call
 
 module _ (g : Endpoint) (many : length (g .slots) ≡ 32) (i : ℕ) (up : slotAt g i .stage ≡ Connected) where
   abbrev Stays : Endpoint → Type 0
   Stays h = slotAt h i ≡ slotAt g i
+
+  -- or the call ends it, and it is free
+  abbrev Ends : Cookies → Call → Endpoint → Type 0
+  Ends k c h = EndedBy k g i c × (slotAt h i ≡ freeSlot)
 
   -- another slot is put
   put-else : (h : Endpoint) (s : ℕ) (x : Slot) → (s ≡ i → ⊥) → Stays h → Stays (put h s x)
@@ -142,44 +166,46 @@ module _ (g : Endpoint) (many : length (g .slots) ≡ 32) (i : ℕ) (up : slotAt
     other-else Nothing h = refl
     other-else (At j) h = put-else g j freeSlot (h j refl) refl
 
-    plan-else : (f : List ℕ) (c : ℕ) (out : List ℕ) (p : Plan) → Sane g (slotAt g s) (body f) p → Frees g (slotAt g s) p
-        → Stays (concluded (checking k) (writing k) g s p .told .endpoint) ⊎ EndedBy k g i (Message s f c out)
+    plan-else : (f : List ℕ) (c : ℕ) (out : List ℕ) (p : Plan) → Sane g (slotAt g s) (body f) p → Freeing g (slotAt g s) p
+        → Stays (concluded (checking k) (writing k) g s p .told .endpoint)
+        ⊎ Ends k (Message s f c out) (concluded (checking k) (writing k) g s p .told .endpoint)
     unfolding finished settled EndedBy Shown
     plan-else f c out (sure (stop r)) h w = inl (refused-else r)
     plan-else f c out (sure (go a)) h w =
         inl
         (put-else (freeOther g (a .other)) s (a .slot) n
-        (other-else (a .other) (λ j e. not-this j 2 (w j e) (λ z. omega arith))))
+        (other-else (a .other) (λ j e. not-this j 2 (w j e .kind) (λ z. omega arith))))
     plan-else f c out (proven ch d a) h w = judge (sameBytes d (digestOf ch (checking k))) refl
       where
         right : sameBytes d (digestOf ch (checking k)) ≡ true → d ≡ digestOf (slotAt g s .challenge) (checking k)
         right t = same-decides d (digestOf ch (checking k)) .0 t ∙ ap (λ (x : ℕ). digestOf x (checking k)) (h .0)
 
         replaced : sameBytes d (digestOf ch (checking k)) ≡ true → (o : Freed) → a .other ≡ o
-            → Stays (put (freeOther g o) s (a .slot)) ⊎ EndedBy k g i (Message s f c out)
+            → Stays (put (freeOther g o) s (a .slot)) ⊎ Ends k (Message s f c out) (put (freeOther g o) s (a .slot))
         replaced t Nothing e = inl (put-else g s (a .slot) n refl)
-        replaced t (At j) e = by (eqb j i) refl
+        replaced t (At j) e =
+            ⊎-elim (λ p. ⊎-map (λ q. p ∙ q) (λ q. (ended (q .0), p ∙ q .1)) (put-at g j freeSlot i)) (λ p. absurd (n (p .0)))
+            (put-at (freed g j) s (a .slot) i)
           where
-            by : (b : Bool) → eqb j i ≡ b → Stays (put (freed g j) s (a .slot)) ⊎ EndedBy k g i (Message s f c out)
-            by true q =
-                inr
-                ((refl, subst (Carries (slotAt g s) (body f)) (right t) (h .1)), sym (w j e) ∙ ap (λ (x : ℕ). peer (slotAt g x)) (eqb-true j i q), n)
-            by false q = inl (put-else (freed g j) s (a .slot) n (put-else g j freeSlot (eqb-false j i q) refl))
+            ended : j ≡ i → EndedBy k g i (Message s f c out)
+            ended q = ((refl, subst (Carries (slotAt g s) (body f)) (right t) (h .1)), sym (w j e .1) ∙ ap (λ (x : ℕ). peer (slotAt g x)) q, n)
 
         judge : (x : Bool) → sameBytes d (digestOf ch (checking k)) ≡ x
-            → Stays (finished (writing k) g s (judged x a) .told .endpoint) ⊎ EndedBy k g i (Message s f c out)
+            → Stays (finished (writing k) g s (judged x a) .told .endpoint)
+            ⊎ Ends k (Message s f c out) (finished (writing k) g s (judged x a) .told .endpoint)
         judge false t = inl (refused-else WrongDigest)
         judge true t = replaced t (a .other) refl
 
-    told : (f : List ℕ) (c : ℕ) (out : List ℕ) → Stays (messageOf k g s f c (length out) .told .endpoint) ⊎ EndedBy k g i (Message s f c out)
+    told : (f : List ℕ) (c : ℕ) (out : List ℕ)
+        → Stays (messageOf k g s f c (length out) .told .endpoint) ⊎ Ends k (Message s f c out) (messageOf k g s f c (length out) .told .endpoint)
     unfolding messageOf plan
     told f c out =
         let x = fit (slotAt g s .stage) (checking k) (writing k) in
         plan-else f c out (plan g s f c (length out) x) (sane g s f c (length out) x)
-        (unless-elim (Frees g (slotAt g s)) fails (awaited g s f c .rule) (messageTests g s (length out) x f (awaited g s f c)) (λ r. tt)
-        (λ h. frees-rule g many (slotAt g s) c (body f) (slotAt g s .stage)))
+        (unless-elim (Freeing g (slotAt g s)) fails (awaited g s f c .rule) (messageTests g s (length out) x f (awaited g s f c)) (λ r. tt)
+        (λ h. frees-rule g many (slotAt g s) c (body f) (slotAt g s .stage) refl))
 
-  last : (c : Call) (k : Cookies) → Stays (next g c k) ⊎ EndedBy k g i c
+  pub last : (c : Call) (k : Cookies) → Stays (next g c k) ⊎ Ends k c (next g c k)
   unfolding step startOf arriveOf closeOf EndedBy
   last (Start n out) k =
       inl
@@ -190,11 +216,12 @@ module _ (g : Endpoint) (many : length (g .slots) ≡ 32) (i : ℕ) (up : slotAt
       (unless-elim (λ t. Stays (t .endpoint)) (kept g) (arrived g) (arriveTests g) (λ r. refl)
       (λ h. opens (opened AwaitsName []) (not-not _ (h .0))))
   last (Close s) k =
-      unless-elim (λ t. Stays (t .endpoint) ⊎ (s ≡ i)) (kept g) _ (closeTests g s) (λ r. inl refl)
-      (λ h. ⊎-map (λ e. e) (λ e. e .0) (put-at g s freeSlot i))
+      unless-elim (λ t. Stays (t .endpoint) ⊎ ((s ≡ i) × (slotAt (t .endpoint) i ≡ freeSlot))) (kept g) _ (closeTests g s) (λ r. inl refl)
+      (λ h. put-at g s freeSlot i)
   last (Message s f c out) k = by (eqb s i) refl
     where
-      by : (b : Bool) → eqb s i ≡ b → Stays (messageOf k g s f c (length out) .told .endpoint) ⊎ EndedBy k g i (Message s f c out)
+      by : (b : Bool) → eqb s i ≡ b
+          → Stays (messageOf k g s f c (length out) .told .endpoint) ⊎ Ends k (Message s f c out) (messageOf k g s f c (length out) .told .endpoint)
       by true q =
           inl (subst (λ (j : ℕ). Stays (messageOf k g j f c (length out) .told .endpoint)) (sym (eqb-true s i q)) (on-itself k f c (length out)))
       by false q = told k s (eqb-false s i q) f c out

@@ -24,21 +24,23 @@ use Rattle.handshake_rules.specs.declared.endpoint.Freed.the-variants.{N
 use Rattle.handshake_rules.specs.declared.accepting.Greeting.the-variants.{NotAllowed, Nok, Alive, Ok}
 use Rattle.handshake_rules.specs.declared.connecting.Reaction.{Reaction}
 use Rattle.handshake_rules.specs.declared.connecting.Reaction.the-variants.{Proceed, Confirm, GiveUp, Unknown}
-use Rattle.handshake_rules.specs.Endpoint.{storedOf, freeSlot, kind, slotAt, put, freed, freeOther, lowest, isSlot, freedAt}
+use Rattle.handshake_rules.specs.Endpoint.{freeSlot, kind, slotAt, put, freed, freeOther, lowest, isSlot, freedAt}
 use Rattle.handshake_rules.specs.Messages.{nameFlags, nameCreation, nameName, statusWord, trueWord, falseWord}
 use Rattle.handshake_rules.specs.Forms.{formTests}
 use Rattle.handshake_rules.specs.Cookie.{Cookies}
-use Rattle.handshake_rules.specs.Plans.{Act, stop, go, Plan, sure, proven, sent, moved}
-use Rattle.handshake_rules.specs.Accepting.{isGreater, contest, greeting, heard, onName, older}
-use Rattle.handshake_rules.specs.Connecting.{reaction, onStatus, challenged}
+use Rattle.handshake_rules.specs.Plans.{Act, stop, go, Plan, sure, proven, moved}
+use Rattle.handshake_rules.specs.Accepting.{isGreater, contest, greeting, onName, older}
+use Rattle.handshake_rules.specs.Connecting.{reaction, onStatus}
 use Rattle.handshake_rules.specs.Calls.{opened, expected, awaited}
 use Rattle.handshake_rules.specs.Runs.{Call, next, Asked, ends}
-use Rattle.handshake_rules.specs.Claims.{NoneHolds, peer, kindOf, Fine, PeersApart}
+use Rattle.handshake_rules.specs.SlotClaims.{peer, kindOf, Fine, PeersApart}
+use Rattle.handshake_rules.specs.Claims.{NoneHolds}
 use Rattle.handshake_rules.proofs.CheckLaws.{not-not}
 use Rattle.handshake_rules.proofs.MessageLaws.{full-short}
-use Rattle.handshake_rules.proofs.SlotLaws.{put-at, put-same, put-other, blank, found, none-found, both-true}
+use Rattle.handshake_rules.proofs.SlotLaws.{put-at, put-same, put-other, blank, found, none-found}
 use Rattle.handshake_rules.proofs.PlanLaws.{either, Does, after-call}
 use Rattle.handshake_rules.proofs.Kept.{made-fresh}
+use Rattle.handshake_rules.proofs.Lasting.{seen}
 
 -- a name that is read, held and seen again
 no-peer : nameBytes (nameOf []) ≡ []
@@ -59,7 +61,7 @@ fine-sym x y f e = ⊎-map (λ p. e ∙ p) (⊎-elim (λ p. inr (p .1, p .0)) (�
 apart-put : (g : Endpoint) (s : ℕ) (x : Slot) → Apart g → (kindOf x ≡ 0 → peer x ≡ []) → ((j : ℕ) → (s ≡ j → ⊥) → Fine x (slotAt g j)) → Apart (put g s x)
 apart-put g s x a t f =
     record {
-      many = length-set (g .slots) s (storedOf x) ∙ a .many;
+      many = length-set (g .slots) s x ∙ a .many;
       tidy = λ i. tidy′ i (put-at g s x i);
       fine = λ i j n. fine′ i j n (put-at g s x i) (put-at g s x j);
     }
@@ -100,11 +102,6 @@ unfolding Fine
 alone x y z k p f e = inl (⊎-elim (λ q. p ∙ q) (⊎-elim (λ q. absurd (omega (arith, k, q .0))) (λ q. absurd (omega (arith, k, q .0)))) (f (sym p ∙ e)))
 
 -- ---- look-up, as kind and peer
-
-seen : (k : ℕ) (n : List ℕ) (y : Slot) → (eqb (kindOf y) k && sameBytes (peer y) n) ≡ true → (kindOf y ≡ k) × (peer y ≡ n)
-seen k n y e =
-    let b = both-true (eqb (kindOf y) k) (sameBytes (peer y) n) e in
-    (eqb-true (kindOf y) k (b .0), same-decides (peer y) n .0 (b .1))
 
 unseen : (k : ℕ) (n : List ℕ) (y : Slot) → (eqb (kindOf y) k && sameBytes (peer y) n) ≡ false → kindOf y ≡ k → peer y ≡ n → ⊥
 unseen k n y e p q = true≢false (sym (yes′ p q) ∙ e)
@@ -176,10 +173,10 @@ module _ (g : Endpoint) (a : Apart g) (s : ℕ) where
         → GoodPlan (onName g n f k c (cond x NotAllowed (cond y Nok (cond z (contest v (lowest StartedTo n g)) (cond w Alive Ok)))))
     by-greeting true y z w v p q = away
     by-greeting false true z w v p q = away
-    by-greeting false false true w true p q = (λ e. absurd (omega arith), λ j m. instead (heard n f k AwaitsReply c) n (name-back n) q j)
+    by-greeting false false true w true p q = (λ e. absurd (omega arith), λ j m. instead _ n (name-back n) q j)
     by-greeting false false true w false p q = away
-    by-greeting false false false true v p q = (λ e. absurd (omega arith), λ j m. welcomed (heard n f k AwaitsAlive 0) n (name-back n) refl p q j)
-    by-greeting false false false false v p q = (λ e. absurd (omega arith), λ j m. welcomed (heard n f k AwaitsReply c) n (name-back n) refl p q j)
+    by-greeting false false false true v p q = (λ e. absurd (omega arith), λ j m. welcomed _ n (name-back n) refl p q j)
+    by-greeting false false false false v p q = (λ e. absurd (omega arith), λ j m. welcomed _ n (name-back n) refl p q j)
 
     good-name : GoodPlan (onName g n f k c (greeting g n))
     unfolding greeting
@@ -216,8 +213,8 @@ module _ (g : Endpoint) (a : Apart g) (s : ℕ) where
               (a .fine s j n (sym p ∙ h))
 
   good-status : (x : Reaction) → slotAt g s .stage ≡ AwaitsStatus → GoodPlan (onStatus (slotAt g s) x)
-  good-status Proceed e = stays (moved (slotAt g s) AwaitsChallenge) (ap kind e) refl (λ z. omega arith)
-  good-status Confirm e = stays (moved (slotAt g s) AwaitsChallenge) (ap kind e) refl (λ z. omega arith)
+  good-status Proceed e = stays _ (ap kind e) refl (λ z. omega arith)
+  good-status Confirm e = stays _ (ap kind e) refl (λ z. omega arith)
   good-status GiveUp e = tt
   good-status Unknown e = tt
 
@@ -228,11 +225,11 @@ module _ (g : Endpoint) (a : Apart g) (s : ℕ) where
   good-rule c b AwaitsName e h =
       good-name (nameName b) (nameFlags b) (nameCreation b) c (full-short (nameName b) (not-not (fullName (nameName b)) (h .1 .1 .0)))
   good-rule c b AwaitsAlive e h =
-      either GoodPlan (sameBytes (statusWord b) trueWord) _ _ (stays (sent (slotAt g s) AwaitsReply c) (ap kind e) refl (λ z. omega arith))
+      either GoodPlan (sameBytes (statusWord b) trueWord) _ _ (stays _ (ap kind e) refl (λ z. omega arith))
       (either GoodPlan (sameBytes (statusWord b) falseWord) _ _ away tt)
-  good-rule c b AwaitsReply e h = (λ z. absurd (omega arith), replaces (moved (slotAt g s) Connected) (ap kind e) refl)
+  good-rule c b AwaitsReply e h = (λ z. absurd (omega arith), replaces _ (ap kind e) refl)
   good-rule c b AwaitsStatus e h = good-status (reaction (statusWord b)) e
-  good-rule c b AwaitsChallenge e h = stays (challenged (slotAt g s) c b) (ap kind e) refl (λ z. omega arith)
+  good-rule c b AwaitsChallenge e h = stays _ (ap kind e) refl (λ z. omega arith)
   good-rule c b AwaitsAck e h =
       (λ z. absurd (omega arith), λ j n. alone (slotAt g s) (moved (slotAt g s) Connected) (slotAt g j) (ap kind e) refl (a .fine s j n))
   good-rule c b Connected e h = tt

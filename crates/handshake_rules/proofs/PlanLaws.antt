@@ -1,5 +1,5 @@
 -- Every plan, walked once: what is checked, what is connected, and how much is written. The other files use its parts. Assumes nothing.
-use Prim.Native.Nat.{ℕ, _+_, _≤_}
+use Prim.Native.Nat.{ℕ, _≤_}
 use mathlib.Core.Path.{_≡_, refl}
 use mathlib.Core.Bool.{Bool, true, false, cond}
 use mathlib.Core.List.{List, [], _++_}
@@ -15,18 +15,19 @@ use Rattle.handshake_rules.specs.declared.endpoint.Slot.{Slot}
 use Rattle.handshake_rules.specs.State.{Endpoint}
 use Rattle.handshake_rules.specs.declared.accepting.Greeting.{Greeting}
 use Rattle.handshake_rules.specs.declared.accepting.Greeting.the-variants.{NotAllowed, Nok, OkSimultaneous, Alive, Ok}
-use Rattle.handshake_rules.specs.Refusals.{keep, free, messageFate, checked}
+use Rattle.handshake_rules.specs.Refusals.{keep, free, messageFate}
 use Rattle.handshake_rules.specs.Endpoint.{slotAt, isA, connected, put, freed, freeOther}
 use Rattle.handshake_rules.specs.Messages.{statusMessage, nameFlags, nameCreation, nameName, statusWord, ok, okSimultaneous, nok, notAllowed, alive, trueWord, falseWord}
 use Rattle.handshake_rules.specs.Cookie.{Cookies, checking, writing, fit, digestOf}
-use Rattle.handshake_rules.specs.Plans.{Writes, plain, reply, ack, stop, go, Plan, sure, proven, fails, judged, settled, spared, finished, concluded, challengeOf}
+use Rattle.handshake_rules.specs.Plans.{Writes, plain, reply, ack, stop, go, Plan, sure, proven, fails, judged, settled, spared, finished, concluded, moved, challengeOf}
 use Rattle.handshake_rules.specs.declared.connecting.Reaction.{Reaction}
 use Rattle.handshake_rules.specs.declared.connecting.Reaction.the-variants.{Proceed, Confirm, GiveUp, Unknown}
 use Rattle.handshake_rules.specs.Accepting.{greeting, onName}
 use Rattle.handshake_rules.specs.Connecting.{reaction, onStatus}
 use Rattle.handshake_rules.specs.Calls.{startTests, arriveTests, closeTests, begun, silent, kept, arrived, startOf, arriveOf, closeOf, expected, awaited, messageTests, plan, messageOf}
 use Rattle.handshake_rules.specs.Runs.{Call, Start, Arrive, Close, Message, step, next}
-use Rattle.handshake_rules.specs.Claims.{Carries, by-reply, by-ack, NoneHolds}
+use Rattle.handshake_rules.specs.SlotClaims.{Carries, by-reply, by-ack}
+use Rattle.handshake_rules.specs.Claims.{NoneHolds}
 use Rattle.handshake_rules.proofs.CheckLaws.{unless-elim}
 use Rattle.handshake_rules.proofs.MessageLaws.{challenge-size, status-size}
 
@@ -40,11 +41,11 @@ Small (ack theirs) = Unit
 
 -- ---- the walk
 
--- without a check nothing is connected; a check is of the slot's challenge and the message's digest
+-- without a check nothing is connected; a check is of the slot's challenge and the message's digest, and connects the slot
 abbrev pub Sane : Endpoint → Slot → List ℕ → Plan → Type 0
 Sane g sl b (sure (stop r)) = Unit
 Sane g sl b (sure (go a)) = (isA connected (a .slot) ≡ false) × (length (nameBytes (g .name)) ≤ 255 → Small (a .writes))
-Sane g sl b (proven c d a) = (c ≡ sl .challenge) × Carries sl b d × (length (nameBytes (g .name)) ≤ 255 → Small (a .writes))
+Sane g sl b (proven c d a) = (c ≡ sl .challenge) × Carries sl b d × (a .slot ≡ moved sl Connected) × (length (nameBytes (g .name)) ≤ 255 → Small (a .writes))
 
 -- a plan that is one of two
 pub either : (P : Plan → Type 0) (x : Bool) (p q : Plan) → P p → P q → P (cond x p q)
@@ -80,11 +81,11 @@ module _ (g : Endpoint) (sl : Slot) (b : List ℕ) where
   sane-rule c AwaitsAlive e =
       either (Sane g sl b) (sameBytes (statusWord b) trueWord) _ _ (refl, long c [] (omega arith))
       (either (Sane g sl b) (sameBytes (statusWord b) falseWord) _ _ (refl, λ h. omega arith) tt)
-  sane-rule c AwaitsReply e = (refl, by-reply e refl, λ h. tt)
+  sane-rule c AwaitsReply e = (refl, by-reply e refl, refl, λ h. tt)
   sane-rule c AwaitsStatus e =
       sane-status (reaction (statusWord b))
   sane-rule c AwaitsChallenge e = (refl, λ h. tt)
-  sane-rule c AwaitsAck e = (refl, by-ack e refl, λ h. omega arith)
+  sane-rule c AwaitsAck e = (refl, by-ack e refl, refl, λ h. omega arith)
   sane-rule c Connected e = tt
 
 pub sane : (g : Endpoint) (s : ℕ) (f : List ℕ) (c size : ℕ) (fits : Bool) → Sane g (slotAt g s) (body f) (plan g s f c size fits)

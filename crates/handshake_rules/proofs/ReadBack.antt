@@ -20,7 +20,7 @@ use Rattle.handshake_rules.specs.Refusals.{checked}
 use Rattle.handshake_rules.specs.Flags.{goodFlags}
 use Rattle.handshake_rules.specs.Messages.{nameL, challengeL, statusL, replyL, ackL, nameTag, statusTag, replyTag, ackTag, tagOf, nameMessage, challengeMessage, statusMessage, replyMessage, ackMessage, challengeName}
 use Rattle.handshake_rules.specs.Forms.{Form, formTests, challengeForm}
-use Rattle.handshake_rules.specs.Claims.{NameReadBack, ChallengeReadBack, StatusReadBack, ReplyReadBack, AckReadBack, FrameSplits}
+use Rattle.handshake_rules.specs.MessageClaims.{NameReadBack, ChallengeReadBack, StatusReadBack, ReplyReadBack, AckReadBack, FrameSplits}
 use Rattle.handshake_rules.proofs.MessageLaws.{full-short, name-size, challenge-size, status-size, reply-size, ack-size}
 
 -- a form all of whose tests are met passes

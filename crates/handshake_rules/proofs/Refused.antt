@@ -17,7 +17,7 @@ use Rattle.handshake_rules.specs.Endpoint.{slotAt}
 use Rattle.handshake_rules.specs.Cookie.{Cookies, checking, writing, fit, digestOf}
 use Rattle.handshake_rules.specs.Plans.{Done, Act, stop, go, Plan, sure, proven, judged, settled, spared, refused, finished, concluded}
 use Rattle.handshake_rules.specs.Calls.{startTests, arriveTests, closeTests, begun, arrived, silent, kept, startOf, arriveOf, closeOf, plan, messageOf}
-use Rattle.handshake_rules.specs.Runs.{Call, Start, Arrive, Close, Message, step, lent, left}
+use Rattle.handshake_rules.specs.Runs.{Call, Start, Arrive, Close, Message, step, lent}
 use Rattle.handshake_rules.specs.Claims.{after, RefusedQuietly}
 use Rattle.handshake_rules.proofs.CheckLaws.{unless-elim}
 

@@ -5,7 +5,7 @@ use Prim.Native.Nat.{ℕ, _+_, _-_, _≤_, _<_}
 use mathlib.Core.Path.{_≡_, refl, sym, _∙_, ap, subst}
 use mathlib.Core.Bool.{Bool, true, false, cond, _&&_, not, true≢false}
 use mathlib.Core.List.{List, [], _∷_, _++_, map}
-use mathlib.Core.Option.{some}
+use mathlib.Core.Option.{Option, none, some}
 use native.Mathlib.Omega.{arith}
 use lib.ListN.{length, getD, drop, length-append, length-drop, List·getD-append}
 use lib.Seq.{getD-append-add}
@@ -24,7 +24,7 @@ use Rattle.handshake_rules.specs.Cookie.{digestOf, Cookies, checking, wr
 use Rattle.handshake_rules.specs.Plans.{Writes, plain, reply, ack, Act, Outcome, stop, go, Plan, sure, proven, fails, judged, settled, render, finished}
 use Rattle.handshake_rules.specs.Calls.{room, messageOf, awaited, frameTests, plan}
 use Rattle.handshake_rules.specs.Runs.{Call, Start, Arrive, Close, Message, step, next, left, used, verdict, checkOf, writesOf, writes, excepted, Given, Moment, moments, differ, splits, beforeSplit, All, Alike, Same, Agree}
-use Rattle.handshake_rules.specs.Claims.{Demand3}
+use Rattle.handshake_rules.specs.Claims.{Demand3, NoSecretKept}
 use Rattle.handshake_rules.proofs.MessageLaws.{reply-head, ack-head}
 use Rattle.handshake_rules.proofs.CookieLaws.{digest-sixteen}
 
@@ -178,6 +178,16 @@ called g (Close s) k₁ k₂ u v = record { answer = refl; endpoint = refl; size
 called g (Message s f c out) k₁ k₂ u v =
     messaged (checking k₁) (checking k₂) (writing k₁) (writing k₂) g s out (plan g s f c (length out) (fit (slotAt g s .stage) (checking k₁) (writing k₁)))
     (plan g s f c (length out) (fit (slotAt g s .stage) (checking k₂) (writing k₂))) (planned g s f c out k₁ k₂ u) v
+
+differ-none : (v : Option Bool) → differ v v ≡ false
+differ-none none = refl
+differ-none (some true) = refl
+differ-none (some false) = refl
+
+pub no-secret-kept : NoSecretKept
+no-secret-kept g c k₁ k₂ u v =
+    let s = called g c k₁ k₂ u (ap (λ (x : Option Bool). differ (checkOf g c k₁) x) (sym v) ∙ differ-none (checkOf g c k₁)) in
+    λ i. record { answer = s .answer i; endpoint = s .endpoint i }
 
 -- ---- the list
 

@@ -39,7 +39,7 @@ module _ (g : Endpoint) (short : length (nameBytes (g .name)) ≤ 255) where
   plan-little sl b i w s (sure (go a)) h = small w (a .writes) (h .1 short)
   plan-little sl b i w s (proven c d a) h = judge (sameBytes d (digestOf c i)) where
     judge : (x : Bool) → Little (finished w g s (judged x a))
-    judge true = small w (a .writes) (h .2 short)
+    judge true = small w (a .writes) (h .3 short)
     judge false = omega arith
 
   pub call-little : (c : Call) (k : Cookies) → Little (step g c k)

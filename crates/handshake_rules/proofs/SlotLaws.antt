@@ -18,18 +18,16 @@ use Rattle.wire.proofs.RunLaws.{and-left, and-right}
 use Rattle.handshake_rules.specs.declared.refusal.Refusal.{Refusal}
 use Rattle.handshake_rules.specs.declared.endpoint.Stage.{Stage}
 use Rattle.handshake_rules.specs.declared.endpoint.Stage.the-variants.{Free, AwaitsName, AwaitsAlive, AwaitsReply, AwaitsStatus, AwaitsChallenge, AwaitsAck, Connected}
-use Rattle.handshake_rules.specs.State.{Stored}
 use Rattle.names.specs.declared.held.Name.{Name}
 use Rattle.handshake_rules.specs.declared.endpoint.Slot.{Slot}
 use Rattle.handshake_rules.specs.State.{Endpoint}
 use Rattle.handshake_rules.specs.declared.endpoint.Sought.{Sought}
 use Rattle.handshake_rules.specs.Refusals.{Fate, keep, free, messageFate, isFree}
-use Rattle.handshake_rules.specs.Endpoint.{freeSlot, unused, stageNumber, stageOf, storedOf, slotOf, slotAt, put, freed, sought, soughtIn, lowest, isSlot, kind}
+use Rattle.handshake_rules.specs.Endpoint.{freeSlot, unused, stageNumber, stageOf, slotAt, put, freed, sought, lowest, isSlot, kind}
 use Rattle.handshake_rules.specs.Plans.{spared}
 
--- ---- what is stored is read back
-
-stage-back : (s : Stage) → stageOf (stageNumber s) ≡ s
+-- a stage is read back from its number
+pub stage-back : (s : Stage) → stageOf (stageNumber s) ≡ s
 unfolding stageOf
 stage-back Free = refl
 stage-back AwaitsName = refl
@@ -40,12 +38,7 @@ stage-back AwaitsChallenge = refl
 stage-back AwaitsAck = refl
 stage-back Connected = refl
 
-pub slot-back : (x : Slot) → slotOf (storedOf x) ≡ x
-unfolding slotOf storedOf
-slot-back x =
-    ap (λ (s : Stage). record { stage = s; name = x .name; flags = x .flags; creation = x .creation; challenge = x .challenge }) (stage-back (x .stage))
-
--- ---- lists of stored slots
+-- ---- lists of slots
 
 module _ {A : Type 0} where
   -- an element after a change is what it was, or what was put there
@@ -66,12 +59,6 @@ module _ {A : Type 0} where
   past (x ∷ l) zero d h = absurd (omega arith)
   past (x ∷ l) (suc j) d h = past l j d (omega arith)
 
-  -- an element does not depend on what is read past the end
-  pub getD-any : (l : List A) (i : ℕ) (d e : A) → i < length l → getD l i d ≡ getD l i e
-  getD-any [] i d e h = absurd (omega arith)
-  getD-any (x ∷ l) zero d e h = refl
-  getD-any (x ∷ l) (suc i) d e h = getD-any l i d e (omega arith)
-
   set-past : (l : List A) (s : ℕ) (x : A) → length l ≤ s → set l s x ≡ l
   set-past [] s x h = refl
   set-past (y ∷ l) zero x h = absurd (omega arith)
@@ -81,28 +68,23 @@ module _ {A : Type 0} where
 
 -- a slot after a change is what it was, or what was put there
 pub put-at : (g : Endpoint) (s : ℕ) (x : Slot) (i : ℕ) → (slotAt (put g s x) i ≡ slotAt g i) ⊎ ((s ≡ i) × (slotAt (put g s x) i ≡ x))
-put-at g s x i =
-    ⊎-map (λ e. ap slotOf e) (λ p. (p .0, ap slotOf (p .1) ∙ slot-back x)) (set-at (g .slots) s (storedOf x) (storedOf freeSlot) i)
+put-at g s x i = set-at (g .slots) s x freeSlot i
 
 pub put-same : (g : Endpoint) (s : ℕ) (x : Slot) → s < length (g .slots) → slotAt (put g s x) s ≡ x
-put-same g s x l = ap slotOf (getD-set-same (g .slots) s (storedOf x) (storedOf freeSlot) l) ∙ slot-back x
+put-same g s x l = getD-set-same (g .slots) s x freeSlot l
 
 pub put-other : (g : Endpoint) (s : ℕ) (x : Slot) (i : ℕ) → (i ≡ s → ⊥) → slotAt (put g s x) i ≡ slotAt g i
-put-other g s x i n = ap slotOf (getD-set-other (g .slots) s i (storedOf x) (storedOf freeSlot) n)
+put-other g s x i n = getD-set-other (g .slots) s i x freeSlot n
 
 -- 32 free slots
 pub blank : (n : Name) (f c i : ℕ) → slotAt (unused n f c) i ≡ freeSlot
-blank n f c i = ap slotOf (blank-at 32 i (storedOf freeSlot)) ∙ slot-back freeSlot
+blank n f c i = blank-at 32 i freeSlot
 
 -- past the last slot
 pub past-last : (g : Endpoint) (j : ℕ) → length (g .slots) ≤ j → slotAt g j ≡ freeSlot
-past-last g j h = ap slotOf (past (g .slots) j (storedOf freeSlot) h) ∙ slot-back freeSlot
+past-last g j h = past (g .slots) j freeSlot h
 
 -- ---- as the code reads and changes slots
-
--- what the rule for an array reads past its end
-abbrev pub noSlot : Stored
-noSlot = record { flags = 0; creation = 0; challenge = 0; name = record { bytes = []; len = 0 }; stage = 0 }
 
 -- a refusal past the last slot, one that keeps and one that frees
 module _ (g : Endpoint) (s : ℕ) (r : Refusal) where
@@ -111,8 +93,8 @@ module _ (g : Endpoint) (s : ℕ) (r : Refusal) where
     by : (x : Fate) → spared g s x ≡ g
     by keep = refl
     by free =
-        ap (λ (l : List Stored). record { name = g .name; flags = g .flags; creation = g .creation; slots = l })
-        (set-past (g .slots) s (storedOf freeSlot) h)
+        ap (λ (l : List Slot). record { name = g .name; flags = g .flags; creation = g .creation; slots = l })
+        (set-past (g .slots) s freeSlot h)
 
   pub spared-kept : isFree (messageFate r) ≡ false → spared g s (messageFate r) ≡ g
   spared-kept = by (messageFate r) where
@@ -131,13 +113,13 @@ module _ (g : Endpoint) (s : ℕ) (r : Refusal) where
 module _ (g : Endpoint) (many : length (g .slots) ≡ 32) (w : Sought) (n : List ℕ) where
   -- what is found is sought
   pub found : isSlot (lowest w n g) ≡ true → sought w n (slotAt g (lowest w n g)) ≡ true
-  found e = first-passes (soughtIn w n) (g .slots) (storedOf freeSlot) (omega (arith, many, ltb-true (lowest w n g) 32 e))
+  found e = first-passes (sought w n) (g .slots) freeSlot (omega (arith, many, ltb-true (lowest w n g) 32 e))
 
   -- where nothing is found, no slot is sought
   pub none-found : sought w n freeSlot ≡ false → isSlot (lowest w n g) ≡ false → (j : ℕ) → sought w n (slotAt g j) ≡ false
   none-found z e j = by (ltb j (lowest w n g)) refl where
     by : (b : Bool) → ltb j (lowest w n g) ≡ b → sought w n (slotAt g j) ≡ false
-    by true t = first-before (soughtIn w n) (g .slots) (storedOf freeSlot) j (ltb-true j (lowest w n g) t)
+    by true t = first-before (sought w n) (g .slots) freeSlot j (ltb-true j (lowest w n g) t)
     by false t =
         let far : length (g .slots) ≤ j = omega (arith, many, ltb-false (lowest w n g) 32 e, ltb-false j (lowest w n g) t) in
         ap (sought w n) (past-last g j far) ∙ z
@@ -149,7 +131,7 @@ both-true a b e = (and-left a b e, and-right a b e)
 
 -- ---- a peer that has no slot at all
 
-first-none : (p q : Stored → Bool) → ((x : Stored) → q x ≡ false → p x ≡ false) → (l : List Stored) → length l ≤ firstAt q l → length l ≤ firstAt p l
+first-none : (p q : Slot → Bool) → ((x : Slot) → q x ≡ false → p x ≡ false) → (l : List Slot) → length l ≤ firstAt q l → length l ≤ firstAt p l
 unfolding firstAt
 first-none p q h [] e = omega arith
 first-none p q h (x ∷ l) e = by (λ k. first-none p q h l k) (q x) refl e where
@@ -175,4 +157,4 @@ untaken AnyTaken n z x e = e
 pub no-slot : (g : Endpoint) → length (g .slots) ≡ 32 → (w : Sought) (n : List ℕ) → (w ≡ AnyFree → ⊥) → 32 ≤ lowest AnyTaken n g → isSlot (lowest w n g) ≡ false
 no-slot g many w n z h =
     le-ltb (lowest w n g) 32
-    (omega (arith, many, first-none (soughtIn w n) (soughtIn AnyTaken n) (λ x. untaken w n z (slotOf x)) (g .slots) (omega (arith, many))))
+    (omega (arith, many, first-none (sought w n) (sought AnyTaken n) (untaken w n z) (g .slots) (omega (arith, many))))

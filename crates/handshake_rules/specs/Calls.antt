@@ -1,5 +1,5 @@
 -- The calls: making, start, arrive, close and message. Each gives its answer, the endpoint after it and the bytes that it writes.
-use Prim.Native.Nat.{ℕ}
+use Prim.Native.Nat.{ℕ, _≤_}
 use mathlib.Core.Bool.{Bool, true, false, not, _||_}
 use mathlib.Core.List.{List, [], _∷_, _++_}
 use lib.ListN.{length}
@@ -17,7 +17,6 @@ use Rattle.handshake_rules.specs.State.{Endpoint}
 use Rattle.handshake_rules.specs.declared.endpoint.Sought.the-variants.{AnyTaken}
 use Rattle.handshake_rules.specs.declared.endpoint.Making.the-variants.{Ready, NotMade}
 use Rattle.handshake_rules.specs.State.{Made}
-use Rattle.handshake_rules.specs.declared.endpoint.Answer.{Answer}
 use Rattle.handshake_rules.specs.declared.endpoint.Answer.the-variants.{Refused, Begun, Arrived, Closed}
 use Rattle.handshake_rules.specs.State.{Told}
 use Rattle.handshake_rules.specs.Refusals.{Test, _given-if_, checked, unless}
@@ -48,6 +47,10 @@ newOf n f c = unless notMade (record { making = Ready; endpoint = fresh n f c })
 -- "Start and message need 300 output bytes"
 abbrev pub room : ℕ
 room = 300
+
+-- a lent output that is long enough
+abbrev pub Roomy : List ℕ → Type 0
+Roomy out = room ≤ length out
 
 -- a refusal that keeps everything
 abbrev pub kept : Endpoint → Refusal → Told

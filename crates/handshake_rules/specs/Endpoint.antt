@@ -11,7 +11,6 @@ use Rattle.names.specs.Held.{nameOf, nameBytes}
 use Rattle.handshake_rules.specs.declared.endpoint.Stage.{Stage}
 use Rattle.handshake_rules.specs.declared.endpoint.Stage.the-variants.{Free, AwaitsName, AwaitsAlive, AwaitsReply, AwaitsStatus, AwaitsChallenge, AwaitsAck, Connected}
 use Rattle.handshake_rules.specs.declared.endpoint.Slot.{Slot}
-use Rattle.handshake_rules.specs.State.{Stored}
 use Rattle.handshake_rules.specs.State.{Endpoint}
 use Rattle.handshake_rules.specs.declared.endpoint.Sought.{Sought}
 use Rattle.handshake_rules.specs.declared.endpoint.Sought.the-variants.{AnyFree, AcceptedFrom, StartedTo, ConnectedTo, AnyTaken}
@@ -22,7 +21,7 @@ use Rattle.handshake_rules.specs.declared.endpoint.Freed.the-variants.{N
 abbrev pub freeSlot : Slot
 freeSlot = record { stage = Free; name = nameOf []; flags = 0; creation = 0; challenge = 0 }
 
--- ---- a slot as it lies in the endpoint: its stage is a number there
+-- ---- a stage's number, and the stage of a number: what is no stage's number is free
 
 abbrev pub stageNumber : Stage → ℕ
 stageNumber Free = 0
@@ -41,16 +40,9 @@ stageOf n =
     (cond (eqb n 3) AwaitsReply
     (cond (eqb n 4) AwaitsStatus (cond (eqb n 5) AwaitsChallenge (cond (eqb n 6) AwaitsAck (cond (eqb n 7) Connected Free))))))
 
-unfoldable pub storedOf : Slot → Stored
-storedOf s = record { flags = s .flags; creation = s .creation; challenge = s .challenge; name = s .name; stage = stageNumber (s .stage) }
-
--- what storedOf stores is read back (SlotLaws.slot-back)
-unfoldable pub slotOf : Stored → Slot
-slotOf s = record { stage = stageOf (s .stage); name = s .name; flags = s .flags; creation = s .creation; challenge = s .challenge }
-
 -- an endpoint with all slots free
 abbrev pub unused : Name → ℕ → ℕ → Endpoint
-unused n f c = record { name = n; flags = f; creation = c; slots = replicate 32 (storedOf freeSlot) }
+unused n f c = record { name = n; flags = f; creation = c; slots = replicate 32 freeSlot }
 
 abbrev pub fresh : List ℕ → ℕ → ℕ → Endpoint
 fresh n f c = unused (nameOf n) f c
@@ -86,10 +78,10 @@ isA k sl = eqb (kind (sl .stage)) k
 
 -- there are 32 slots; past them nothing is taken
 abbrev pub slotAt : Endpoint → ℕ → Slot
-slotAt g s = slotOf (getD (g .slots) s (storedOf freeSlot))
+slotAt g s = getD (g .slots) s freeSlot
 
 abbrev pub put : Endpoint → ℕ → Slot → Endpoint
-put g s sl = record { name = g .name; flags = g .flags; creation = g .creation; slots = set (g .slots) s (storedOf sl) }
+put g s sl = record { name = g .name; flags = g .flags; creation = g .creation; slots = set (g .slots) s sl }
 
 abbrev pub freed : Endpoint → ℕ → Endpoint
 freed g s = put g s freeSlot
@@ -122,12 +114,9 @@ named AnyTaken n sl = sameBytes (nameBytes (sl .name)) n
 abbrev pub sought : Sought → List ℕ → Slot → Bool
 sought w n sl = ofKind w (kind (sl .stage)) && named w n sl
 
-abbrev pub soughtIn : Sought → List ℕ → Stored → Bool
-soughtIn w n s = sought w n (slotOf s)
-
 -- the lowest slot that is sought, or 32
 abbrev pub lowest : Sought → List ℕ → Endpoint → ℕ
-lowest w n g = firstAt (soughtIn w n) (g .slots)
+lowest w n g = firstAt (sought w n) (g .slots)
 
 abbrev pub isSlot : ℕ → Bool
 isSlot i = ltb i 32

@@ -12,7 +12,8 @@ use Rattle.handshake_rules.specs.State.{Endpoint}
 use Rattle.handshake_rules.specs.Endpoint.{slotAt}
 use Rattle.handshake_rules.specs.Cookie.{Cookies, checking, writing, needed, allowed, fit, digestOf}
 use Rattle.handshake_rules.specs.Plans.{Done, Writes, plain, reply, ack, Outcome, stop, go, Plan, sure, proven, settled}
-use Rattle.handshake_rules.specs.Calls.{room, silent, startOf, arriveOf, closeOf, plan, messageOf}
+use Rattle.handshake_rules.specs.declared.endpoint.Making.the-variants.{Ready}
+use Rattle.handshake_rules.specs.Calls.{room, silent, newOf, startOf, arriveOf, closeOf, plan, messageOf}
 
 -- ---- one call
 
@@ -148,3 +149,7 @@ pub record Asked : Type 0 where
 unfoldable pub ends : Endpoint → List Asked → Endpoint
 ends g [] = g
 ends g (a ∷ rest) = ends (next g (a .call) (a .cookies)) rest
+
+-- g is what making gives for these arguments
+abbrev pub MadeOf : List ℕ → ℕ → ℕ → Endpoint → Type 0
+MadeOf n f c g = newOf n f c ≡ record { making = Ready; endpoint = g }

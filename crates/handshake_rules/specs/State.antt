@@ -2,22 +2,15 @@
 use Prim.Native.Nat.{ℕ}
 use mathlib.Core.List.{List}
 use Rattle.names.specs.declared.held.Name.{Name}
+use Rattle.handshake_rules.specs.declared.endpoint.Slot.{Slot}
 use Rattle.handshake_rules.specs.declared.endpoint.Answer.{Answer}
 use Rattle.handshake_rules.specs.declared.endpoint.Making.{Making}
-
--- a slot as it lies in the endpoint: its stage is a number there
-pub record Stored : Type 0 where
-  pub flags : ℕ
-  pub creation : ℕ
-  pub challenge : ℕ
-  pub name : Name
-  pub stage : ℕ
 
 pub record Endpoint : Type 0 where
   pub name : Name
   pub flags : ℕ
   pub creation : ℕ
-  pub slots : List Stored
+  pub slots : List Slot
 
 pub record Told : Type 0 where
   pub answer : Answer

@@ -4,6 +4,7 @@
 use bounds::show_bounds;
 use epmd_messages::replies::ROOM;
 use epmd_state::layout::SIZE;
+use handshake::SIZE as ENDPOINT;
 use print::bytes;
 use print::first;
 use print::word;
@@ -39,17 +40,17 @@ fn show_mapper(alive2: &[u8]) {
 
 // C5: what a@b writes when it starts towards b@b. C6: what b@b writes first when it gets that.
 fn show_messages() {
-    let mut a = [0u8; 9004];
-    let mut b = [0u8; 9004];
+    let mut a = [0u8; ENDPOINT];
+    let mut b = [0u8; ENDPOINT];
     let mut out = [0u8; 300];
     let mut back = [0u8; 300];
-    handshake::lent::make(&mut a, b"a@b", 0x1000104, 7);
-    handshake::lent::make(&mut b, b"b@b", 0x1000104, 8);
-    handshake::lent::start(&mut a, b"b@b", &mut out);
+    handshake::calls::make(&mut a, b"a@b", 0x1000104, 7);
+    handshake::calls::make(&mut b, b"b@b", 0x1000104, 8);
+    handshake::calls::start(&mut a, b"b@b", &mut out);
     word(b"C5: ");
     bytes(first(&out, 20));
-    handshake::lent::arrive(&mut b);
-    handshake::lent::message(&mut b, 0, first(&out, 20), 9, b"", b"cookie", &mut back);
+    handshake::calls::arrive(&mut b);
+    handshake::calls::message(&mut b, 0, first(&out, 20), 9, b"", b"cookie", &mut back);
     word(b"C6: ");
     bytes(first(&back, 5));
 }

@@ -91,7 +91,8 @@ impl Mapper {
                 .registry
                 .request(it.slot, frame, &mut self.out)
                 .map_err(Why::Refused)
-                .inspect_err(|why| self.say_refused(it, why))?;
+                .inspect_err(|why| self.say_refused(it, why))?
+                .written;
             match (frame[2], self.out[1]) {
                 (ALIVE2_REQ, 0) => self.registered(it),
                 (ALIVE2_REQ, _) if it.node.is_none() && !sure => return Ok(Next::SeekEnded),

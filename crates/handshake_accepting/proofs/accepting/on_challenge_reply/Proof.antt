@@ -18,7 +18,7 @@ use native.Mathlib.Omega.{arith}
 use mathlib.Core.List.{List}
 use mathlib.Core.Path.{_≡_, sym, ap, ap₂, _∙_}
 use Prim.Native.Nat.{ℕ}
-use Rattle.handshake_state.specs.Lent.{endpointOf, toldIn}
+use Rattle.handshake_state.specs.Bytes.{endpointOf}
 use borrow.Author.Needs.{needs}
 use Rattle.handshake_accepting.proofs.accepting.on_challenge_reply.Statement.{statement}
 use Rattle.handshake_accepting.proofs.accepting.on_challenge_reply.Tie as tie
@@ -85,7 +85,7 @@ returns-2 c =
     settle (concluded k k ((endpointOf (a .state .now))) (a .at) (expectReply ((endpointOf (a .state .now))) sl b .rule)) (answered ((endpointOf (a .state .now))) (a .at) (moved sl Connected) (older ((endpointOf (a .state .now))) sl) (ackMessage (digestOf (replyChallenge b) k)))
     (proven-right k k ((endpointOf (a .state .now))) (a .at) (sl .challenge) (replyDigest b) x (said-yes v (c .before .before .before .before .before .before .before .before .before .before .before .if1 .left))) (a .out .now)
     (c .before .before .connect .ensures
-    ∙ ap₂ (λ (s : Slot) (n : ℕ). answers (freeOther ((endpointOf (a .state .now))) (older ((endpointOf (a .state .now))) s)) (a .at) (moved s Connected) (older ((endpointOf (a .state .now))) s) n) (c .before .before .before .before .before .before .before .before .before .before .before .before .before .before .slot .ensures)
+    ∙ ap (answers (freeOther ((endpointOf (a .state .now))) (older ((endpointOf (a .state .now))) sl)) (a .at) (moved sl Connected) (older ((endpointOf (a .state .now))) sl))
     (c .before .before .before .before .before .before .send-challenge-ack .ensures .0 ∙ ap (λ (d : List ℕ). length (ackMessage d)) m))
     (c .before .before .before .before .before .before .send-challenge-ack .ensures .1 ∙ ap (λ (d : List ℕ). written (ackMessage d) (a .out .now)) m)
 

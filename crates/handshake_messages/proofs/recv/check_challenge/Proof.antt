@@ -2,7 +2,6 @@ use Rattle.handshake_rules.proofs.CheckLaws.{said-eq, said-ne, said-yes, said-n
 use Rattle.handshake_rules.specs.Messages.{challengeL, challengeName}
 use Rattle.handshake_rules.specs.Flags.{goodFlags}
 use Rattle.names.specs.Full.{fullName}
-use Rattle.names.specs.Held.{nameBytes}
 use Rattle.wire.specs.Layout.{extent}
 use Rattle.wire.specs.Run.{part, sameBytes}
 use borrow.Author.Tests.{lt-leb, le-leb}
@@ -22,7 +21,7 @@ returns c = rw (said-ne 78 (c .before .get8 .ensures) (c .if1 .taken))
 
 returns-2 : tie.Need-returns-2
 returns-2 c =
-    let b = c .before .before .before .before .args .body .now in
+    let b = c .before .before .before .before .before .args .body .now in
     let h : length b < extent challengeL b = omega arith in
     rw (said-eq 78 (c .before .before .get8 .ensures) (c .before .if1 .left), lt-leb (extent challengeL b) (length b) h)
 
@@ -34,7 +33,7 @@ cast-len c = search needs
 
 returns-3 : tie.Need-returns-3
 returns-3 c =
-    let b = c .before .before .before .before .before .before .args .body .now in
+    let b = c .before .before .before .before .before .before .before .args .body .now in
     let h : length b < extent challengeL b = omega (arith, c .before .get16 .ensures) in
     rw (said-eq 78 (c .before .before .before .before .get8 .ensures) (c .before .before .before .if1 .left), lt-leb (extent challengeL b) (length b) h)
 
@@ -46,25 +45,25 @@ is-full-name-requires c κs = search needs
 
 returns-4 : tie.Need-returns-4
 returns-4 c =
-    let b = c .before .before .before .before .before .before .before .before .before .args .body .now in
+    let b = c .before .before .before .before .before .before .before .before .before .before .args .body .now in
     let h : extent challengeL b ≤ length b = omega (arith, c .before .before .before .before .get16 .ensures) in
     let n : c .before .before .get-part .result .now ≡ challengeName b = c .before .before .get-part .ensures ∙ ap (λ (k : ℕ). part 19 k b) (c .before .before .before .before .get16 .ensures) in
     rw (said-eq 78 (c .before .before .before .before .before .before .before .get8 .ensures) (c .before .before .before .before .before .before .if1 .left), le-leb (extent challengeL b) (length b) h, said-no (c .before .is-full-name .ensures ∙ ap fullName n) (c .if4 .taken))
 
-is-requires : tie.Need-is-requires
-is-requires c κs = search needs
+same-bytes-requires : tie.Need-same-bytes-requires
+same-bytes-requires c κs = search needs
 
 returns-5 : tie.Need-returns-5
 returns-5 c =
-    let b = c .before .before .before .before .before .before .before .before .before .before .before .args .body .now in
-    let p = nameBytes (c .before .before .before .before .before .before .before .before .before .before .before .args .peer) in
+    let b = c .before .before .before .before .before .before .before .before .before .before .before .before .args .body .now in
+    let p = c .before .before .before .before .before .before .before .before .before .before .before .before .args .peer .now in
     let h : extent challengeL b ≤ length b = omega (arith, c .before .before .before .before .before .before .get16 .ensures) in
     let n : c .before .before .before .before .get-part .result .now ≡ challengeName b = c .before .before .before .before .get-part .ensures ∙ ap (λ (k : ℕ). part 19 k b) (c .before .before .before .before .before .before .get16 .ensures) in
     rw (
       said-eq 78 (c .before .before .before .before .before .before .before .before .before .get8 .ensures) (c .before .before .before .before .before .before .before .before .if1 .left),
       le-leb (extent challengeL b) (length b) h,
       said-yes (c .before .before .before .is-full-name .ensures ∙ ap fullName n) (c .before .before .if4 .left),
-      said-no (c .before .is .ensures ∙ ap (sameBytes p) n) (c .if5 .taken),
+      said-no (c .before .same-bytes .ensures ∙ ap (sameBytes p) n) (c .if5 .taken),
     )
 
 get64-requires : tie.Need-get64-requires
@@ -75,29 +74,29 @@ good-flags-requires c κs = search needs
 
 returns-6 : tie.Need-returns-6
 returns-6 c =
-    let b = c .before .before .before .before .before .before .before .before .before .before .before .before .before .before .args .body .now in
-    let p = nameBytes (c .before .before .before .before .before .before .before .before .before .before .before .before .before .before .args .peer) in
+    let b = c .before .before .before .before .before .before .before .before .before .before .before .before .before .before .before .args .body .now in
+    let p = c .before .before .before .before .before .before .before .before .before .before .before .before .before .before .before .args .peer .now in
     let h : extent challengeL b ≤ length b = omega (arith, c .before .before .before .before .before .before .before .before .before .get16 .ensures, c .before .before .before .before .before .before .before .before .if3 .left) in
     let n : c .before .before .before .before .before .before .before .get-part .result .now ≡ challengeName b = c .before .before .before .before .before .before .before .get-part .ensures ∙ ap (λ (k : ℕ). part 19 k b) (c .before .before .before .before .before .before .before .before .before .get16 .ensures) in
     rw (
       said-eq 78 (c .before .before .before .before .before .before .before .before .before .before .before .before .get8 .ensures) (c .before .before .before .before .before .before .before .before .before .before .before .if1 .left),
       le-leb (extent challengeL b) (length b) h,
       said-yes (c .before .before .before .before .before .before .is-full-name .ensures ∙ ap fullName n) (c .before .before .before .before .before .if4 .left),
-      said-yes (c .before .before .before .before .is .ensures ∙ ap (sameBytes p) n) (c .before .before .before .if5 .left),
+      said-yes (c .before .before .before .before .same-bytes .ensures ∙ ap (sameBytes p) n) (c .before .before .before .if5 .left),
       said-no (c .before .good-flags .ensures ∙ ap goodFlags (c .before .before .get64 .ensures)) (c .if6 .taken),
     )
 
 returns-7 : tie.Need-returns-7
 returns-7 c =
-    let b = c .before .before .before .before .before .before .before .before .before .before .before .before .before .before .args .body .now in
-    let p = nameBytes (c .before .before .before .before .before .before .before .before .before .before .before .before .before .before .args .peer) in
+    let b = c .before .before .before .before .before .before .before .before .before .before .before .before .before .before .before .args .body .now in
+    let p = c .before .before .before .before .before .before .before .before .before .before .before .before .before .before .before .args .peer .now in
     let h : extent challengeL b ≤ length b = omega (arith, c .before .before .before .before .before .before .before .before .before .get16 .ensures, c .before .before .before .before .before .before .before .before .if3 .left) in
     let n : c .before .before .before .before .before .before .before .get-part .result .now ≡ challengeName b = c .before .before .before .before .before .before .before .get-part .ensures ∙ ap (λ (k : ℕ). part 19 k b) (c .before .before .before .before .before .before .before .before .before .get16 .ensures) in
     rw (
       said-eq 78 (c .before .before .before .before .before .before .before .before .before .before .before .before .get8 .ensures) (c .before .before .before .before .before .before .before .before .before .before .before .if1 .left),
       le-leb (extent challengeL b) (length b) h,
       said-yes (c .before .before .before .before .before .before .is-full-name .ensures ∙ ap fullName n) (c .before .before .before .before .before .if4 .left),
-      said-yes (c .before .before .before .before .is .ensures ∙ ap (sameBytes p) n) (c .before .before .before .if5 .left),
+      said-yes (c .before .before .before .before .same-bytes .ensures ∙ ap (sameBytes p) n) (c .before .before .before .if5 .left),
       said-yes (c .before .good-flags .ensures ∙ ap goodFlags (c .before .before .get64 .ensures)) (c .if6 .left),
     )
 
@@ -114,7 +113,7 @@ check-challenge-spec =
     get-part-requires
     is-full-name-requires
     returns-4
-    is-requires
+    same-bytes-requires
     returns-5
     get64-requires
     good-flags-requires
