@@ -110,10 +110,10 @@ pub(crate) fn close_in(state: &mut [u8], connection: u32) -> bool
     requires { ⌜ length (now state) ≡ size ⌝ }
     ensures { λ r. ⌜ Closes (closeOf (registryOf (now (state .entry))) connection) r (now (state .exit)) ⌝ }
 {
-    let at = find_connection(&state[..], connection);
-    if PLACES <= at {
+    let place = find_connection(&state[..], connection);
+    if PLACES <= place {
         return false;
     }
-    clear(state, at);
+    clear(state, place);
     true
 }

@@ -65,3 +65,8 @@ pub record Takes (t : Taking) (n : ℕ) (told : Taken) (registry out out' : List
   pub next : told .next ≡ n - length (t .rest)
   pub count : told .written ≡ length (t .bytes)
   pub output : out' ≡ written (t .bytes) out
+
+-- of a part xs some bytes were printed, and the rest is still to be printed, whatever comes behind the part
+pub record Printed (s : Script) (held xs : List ℕ) (s' : Script) (held' rest : List ℕ) : Type 0 where
+  pub bytes : List ℕ
+  pub is : (more : List ℕ) → toPrint s held (xs ++ more) ≡ bytes ++ toPrint s' held' (rest ++ more)

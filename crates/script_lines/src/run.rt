@@ -13,11 +13,12 @@ use libc::STDIN_FILENO;
 use libc::STDOUT_FILENO;
 ghost use Prim.Native.Nat.{_-_, _<_, _≤_};
 ghost use mathlib.Core.Path.{_≡_};
+ghost use mathlib.Core.List.{[]};
 ghost use lib.ListN.{length, take, drop};
 ghost use Rattle.wire.specs.Output.{overwrite};
 ghost use Rattle.script_lines.specs.State.{scriptIn};
 ghost use Rattle.script_lines.specs.Answer.{answerRoom};
-ghost use Rattle.script_lines.specs.Lines.{upTo, Takes, takeOf};
+ghost use Rattle.script_lines.specs.Lines.{upTo, Takes, takeOf, Printed};
 
 // Takes a line from a part of the input, or what is there of one, and prints what it gives.
 fn take_line(
@@ -49,7 +50,8 @@ fn take_part(
     out: &mut [u8],
 ) -> Taken
     requires { ⌜ (held ≤ 801) × (length (now text) ≡ 801) × (answerRoom ≤ length (now out)) ⌝ }
-    ensures { λ r. ⌜ (r .held ≤ 801) × (length (now (part .entry)) ≤ r .next) ⌝ }
+    ensures { λ r. ⌜ r .held ≤ 801 ⌝ }
+    ensures { λ r. ⌜ Printed (scriptIn awaits (now (registry .entry))) (take held (now (text .entry))) (now (part .entry)) (scriptIn (r .awaits) (now (registry .exit))) (take (r .held) (now (text .exit))) [] ⌝ }
 {
     let mut at = Taken {
         awaits,
