@@ -44,7 +44,7 @@ close-keeps r c i reach h t d = by (after-close r c) where
   by (none-freed e) = ap (λ (x : Registry). entryAt x i) e
   by (one-freed k e) =
       let other : i ≡ byConnection r c → ⊥ = λ (q : i ≡ byConnection r c).
-          d (ap (λ (j : ℕ). entryAt r j .connection) q ∙ has-connection c (entryAt r (byConnection r c)) (first-passes (hasConnection c) (r .registrations) free (omega (arith, always-sound r reach .places)))) in
+      d (ap (λ (j : ℕ). entryAt r j .connection) q ∙ has-connection c (entryAt r (byConnection r c)) (first-passes (hasConnection c) (r .registrations) free (omega (arith, always-sound r reach .places)))) in
       ap (λ (x : Registry). entryAt x i) e ∙ getD-set-other (r .registrations) (byConnection r c) i free free other
 
 module _ (r : Registry) (i : ℕ) (reach : Reachable r) (h : i < 64) (t : isFree (entryAt r i) ≡ false) where

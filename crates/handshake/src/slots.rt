@@ -10,7 +10,6 @@ use handshake_state::lookup::find;
 use handshake_state::slots::kind_of;
 use handshake_state::slots::stage_at;
 use names::Name;
-ghost use mathlib.Core.Path.{_≡_};
 ghost use Rattle.handshake_rules.specs.Calls as calls;
 ghost use Rattle.handshake_state.specs.Bytes.{Whole, endpointOf, Tells};
 

@@ -30,16 +30,12 @@ use names::Name;
 ghost use Rattle.handshake_state.specs.Bytes.{Whole, endpointOf, Tells, Does, Concludes, ConcludesAlike};
 ghost use Rattle.handshake_rules.specs.Calls.{Roomy};
 ghost use mathlib.Core.Path.{_≡_};
-ghost use Prim.Native.Nat.{ℕ, _+_, _≤_, _<_};
-ghost use mathlib.Core.List.{List, [], _∷_, _++_};
+ghost use Prim.Native.Nat.{_+_, _≤_, _<_};
 ghost use lib.ListN.{length};
 ghost use Rattle.wire.specs.Run.{order};
-ghost use Rattle.wire.specs.Output.{written};
-ghost use Rattle.names.specs.Held.{nameBytes};
 ghost use Rattle.handshake_rules.specs.declared.endpoint.Stage.the-variants.{AwaitsReply, Connected};
 ghost use Rattle.handshake_rules.specs.declared.endpoint.Freed.the-variants.{Nothing};
-ghost use Rattle.handshake_rules.specs.Endpoint.{slotAt, freeOther, lowest};
-ghost use Rattle.handshake_rules.specs.Messages.{statusMessage};
+ghost use Rattle.handshake_rules.specs.Endpoint.{slotAt, freeOther};
 ghost use Rattle.handshake_rules.specs.Plans as plans;
 ghost use Rattle.handshake_rules.specs.Accepting as spec;
 

@@ -3,19 +3,17 @@ use Rattle.wire.proofs.LayoutLaws.{message-split}
 use Rattle.wire.proofs.OutputLaws.{written-two, overwrite-join}
 use Rattle.wire.specs.Layout.{number, int, encode}
 use Rattle.wire.specs.Output.{overwrite, written}
-use Prim.Native.Nat.{ℕ, _+_, _≤_, suc, zero}
+use Prim.Native.Nat.{ℕ, _+_, _≤_, suc}
 use mathlib.Core.Path.{_≡_, refl, sym, _∙_, ap}
 use mathlib.Core.Bool.{true}
 use mathlib.Core.List.{List, [], _∷_, _++_, append-nil}
 use native.Mathlib.Omega.{arith}
-use lib.ListN.{length, length-append, length-take, take}
+use lib.ListN.{length, length-append}
 use lib.Dec.{leb}
 use borrow.Author.Tests.{leb-true}
 use Rattle.wire.specs.Number.{be}
 use Rattle.wire.specs.Frame.{framed}
 use Rattle.wire.proofs.RunLaws.{and-left, and-right}
-use Rattle.names.specs.declared.held.Name.{Name}
-use Rattle.names.specs.Held.{nameBytes}
 use Rattle.names.specs.Full.{fullName}
 use Rattle.handshake_rules.specs.Messages.{nameMessage, challengeMessage, statusMessage, replyMessage, ackMessage, beforeName, beforeChallenger}
 
@@ -24,10 +22,6 @@ use Rattle.handshake_rules.specs.Messages.{nameMessage, challengeMessage
 pub full-short : (n : List ℕ) → fullName n ≡ true → length n ≤ 255
 unfolding fullName
 full-short n h = leb-true (length n) 255 (and-right (leb 3 (length n)) _ (and-left _ _ (and-left _ _ (and-left _ _ h))))
-
-pub held-short : (n : Name) → n .len ≤ 255 → length (nameBytes n) ≤ 255
-unfolding nameBytes
-held-short n h = simp length-take (omega arith)
 
 -- ---- sizes
 
@@ -110,19 +104,3 @@ pub ack-written : (d out : List ℕ) {x y : List ℕ} → length d ≡ 16 → x 
 ack-written d out h ex ey =
     ey ∙ ap (λ (x : List ℕ). overwrite x 3 d) ex ∙ written-two out (be 2 17 ++ 97 ∷ []) d 3 refl
     ∙ ap (λ (x : List ℕ). written x out) (sym (ack-head d h))
-
--- ---- a held name as the first bytes of its array
-
-take-taken : (n : ℕ) (xs : List ℕ) → take (length (take n xs)) xs ≡ take n xs
-take-taken zero xs = refl
-take-taken (suc n) [] = refl
-take-taken (suc n) (x ∷ xs) = ap (λ (l : List ℕ). x ∷ l) (take-taken n xs)
-
-module _ (n : Name) {b : List ℕ} {l : ℕ} (e : b ≡ n .bytes) (f : l ≡ length (nameBytes n)) where
-  pub held-taken : take l b ≡ nameBytes n
-  unfolding nameBytes
-  held-taken = rw (f, e) (take-taken (n .len) (n .bytes))
-
-  pub held-within : l ≤ length b
-  unfolding nameBytes
-  held-within = omega (arith, f, ap length e, length-take (n .len) (n .bytes))

@@ -1,7 +1,7 @@
 -- 01's number and values for each answer (01, Forms by place: "Where an answer is an enum, the promises use a definition that gives this paper's number
 -- and values for each of its cases").
 use Prim.Native.Nat.{ℕ}
-use mathlib.Core.Bool.{Bool, true, false}
+use mathlib.Core.Bool.{Bool, false}
 use lib.Dec.{eqb}
 use Rattle.handshake_rules.specs.declared.endpoint.Freed.{Freed}
 use Rattle.handshake_rules.specs.declared.endpoint.Freed.the-variants.{Nothing, At}

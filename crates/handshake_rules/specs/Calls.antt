@@ -17,7 +17,6 @@ use Rattle.handshake_rules.specs.State.{Endpoint}
 use Rattle.handshake_rules.specs.declared.endpoint.Sought.the-variants.{AnyTaken}
 use Rattle.handshake_rules.specs.declared.endpoint.Making.the-variants.{Ready, NotMade}
 use Rattle.handshake_rules.specs.State.{Made}
-use Rattle.handshake_rules.specs.declared.endpoint.Answer.{Answer}
 use Rattle.handshake_rules.specs.declared.endpoint.Answer.the-variants.{Refused, Begun, Arrived, Closed}
 use Rattle.handshake_rules.specs.State.{Told}
 use Rattle.handshake_rules.specs.Refusals.{Test, _given-if_, checked, unless}

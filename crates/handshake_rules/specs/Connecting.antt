@@ -11,7 +11,7 @@ use Rattle.handshake_rules.specs.declared.endpoint.Freed.the-variants.{N
 use Rattle.handshake_rules.specs.declared.connecting.Reaction.{Reaction}
 use Rattle.handshake_rules.specs.declared.connecting.Reaction.the-variants.{Proceed, Confirm, GiveUp, Unknown}
 use Rattle.handshake_rules.specs.Forms.{statusForm, challengeForm, ackForm}
-use Rattle.handshake_rules.specs.Messages.{challengeFlags, challengeChallenge, challengeCreation, challengeName, statusWord, ackDigest, statusMessage, ok, okSimultaneous, nok, notAllowed, alive, trueWord}
+use Rattle.handshake_rules.specs.Messages.{challengeFlags, challengeChallenge, challengeCreation, statusWord, ackDigest, statusMessage, ok, okSimultaneous, nok, notAllowed, alive, trueWord}
 use Rattle.handshake_rules.specs.Plans.{plain, reply, go, Plan, sure, proven, does, fails, Expected, moved}
 
 -- ---- awaits status

@@ -2,7 +2,7 @@
 -- if it has one; and what is settled is FINISHED, which writes the digest of a reply or an acknowledgement.
 use Prim.Native.Nat.{ℕ}
 use mathlib.Core.Bool.{Bool, true, false}
-use mathlib.Core.List.{List, [], _∷_, _++_}
+use mathlib.Core.List.{List, []}
 use lib.ListN.{length}
 use Rattle.wire.specs.Run.{sameBytes}
 use Rattle.names.specs.Held.{nameBytes}
@@ -12,7 +12,6 @@ use Rattle.handshake_rules.specs.declared.endpoint.Stage.{Stage}
 use Rattle.handshake_rules.specs.declared.endpoint.Slot.{Slot}
 use Rattle.handshake_rules.specs.State.{Endpoint}
 use Rattle.handshake_rules.specs.declared.endpoint.Freed.{Freed}
-use Rattle.handshake_rules.specs.declared.endpoint.Freed.the-variants.{Nothing}
 use Rattle.handshake_rules.specs.declared.endpoint.Answer.the-variants.{Refused, Answered}
 use Rattle.handshake_rules.specs.State.{Told}
 use Rattle.handshake_rules.specs.Refusals.{Fate, keep, free, messageFate, checked, unless}

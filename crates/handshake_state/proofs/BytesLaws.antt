@@ -1,5 +1,5 @@
 -- Laws of an endpoint that lies in bytes: a slot's record is read where it lies, and overwriting it changes that slot alone. Assumes nothing.
-use Prim.Native.Nat.{ℕ, _+_, _*_, _<_}
+use Prim.Native.Nat.{ℕ, _+_, _<_}
 use mathlib.Core.Path.{_≡_, refl, sym, _∙_, ap, ap₂}
 use mathlib.Core.List.{List, [], _∷_, _++_, append-nil}
 use native.Mathlib.Omega.{arith}
@@ -86,7 +86,7 @@ put-here b i s h l fits long =
 -- ---- our own name, flags and creation
 
 -- what stands before the slots
-ownFrom : List Value → List Slot → Endpoint
+abbrev pub ownFrom : List Value → List Slot → Endpoint
 ownFrom vs l =
     record {
       name = record { bytes = runOf (getD vs 1 (int 0)); len = intOf (getD vs 0 (int 0)) };
@@ -97,7 +97,7 @@ ownFrom vs l =
 
 pub own-here : (b : List ℕ) (n : Name) (f c : ℕ) → Whole b → Fits ownL (ownValues n f c) → length (encode ownL (ownValues n f c)) ≡ ownSize
     → endpointOf (overwrite b 0 (encode ownL (ownValues n f c))) ≡ ownedBy n f c (endpointOf b)
-unfolding endpointOf slotsIn overwrite ownFrom
+unfolding endpointOf slotsIn overwrite
 own-here b n f c l fits long =
     let e = encode ownL (ownValues n f c) in
     ap₂ ownFrom

@@ -2,11 +2,11 @@
 -- them goes by these layouts; the offsets and widths of the code are theirs.
 use Prim.Native.Nat.{ℕ, _+_, _*_}
 use mathlib.Core.Path.{_≡_}
-use mathlib.Core.List.{List, [], _∷_}
+use mathlib.Core.List.{List, [], _∷_, _++_}
 use lib.ListN.{length, getD}
 use Rattle.wire.specs.Layout.{number, bytes, Layout, Value, int, run, encode, decode, width, intOf, runOf, intAt, runAt}
 use Rattle.wire.specs.Output.{written}
-use Rattle.wire.specs.Table.{table}
+use Rattle.wire.specs.Table.{table, tableBytes}
 use Rattle.names.specs.declared.held.Name.{Name}
 use Rattle.handshake_rules.specs.declared.endpoint.Slot.{Slot}
 use Rattle.handshake_rules.specs.declared.endpoint.Answer.{Answer}
@@ -82,6 +82,10 @@ endpointOf b =
       creation = intAt ownL 3 b;
       slots = slotsIn b;
     }
+
+-- and the other way: the bytes of an endpoint
+abbrev pub stateBytes : Endpoint → List ℕ
+stateBytes g = encode ownL (ownValues (g .name) (g .flags) (g .creation)) ++ tableBytes slotBytes (g .slots)
 
 -- ---- what a call does to the bytes
 

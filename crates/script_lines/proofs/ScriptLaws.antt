@@ -11,7 +11,10 @@ use Rattle.wire.specs.Decimal.{value}
 use Rattle.wire.specs.Run.{sameBytes}
 use Rattle.wire.specs.Output.{written}
 use Rattle.epmd_rules.specs.declared.answer.Answer.{Answer}
+use Rattle.epmd_rules.specs.State.{Registry}
+use Rattle.epmd_rules.specs.Registry.{newOf}
 use Rattle.epmd_rules.specs.Answers.{numbersOf}
+use Rattle.epmd_state.specs.Lent.{ifMade}
 use Rattle.epmd_rules.specs.Serve as mapper
 use Rattle.script_lines.specs.declared.line.Item.{Item}
 use Rattle.script_lines.specs.declared.line.Item.the-variants.{Op, Conn, Hex, Malformed}
@@ -147,3 +150,8 @@ last-line s l h = rw (ne-eqb (length l) 0 h) (ap (λ (x : List ℕ). lineOf s l 
 pub empty-said : (l : List ℕ) → length l ≡ 0 → l ≡ []
 empty-said [] e = refl
 empty-said (x ∷ l) e = absurd (omega (arith, e))
+
+-- the mapper of 01's script is made
+pub mapper-made : (r : Registry) → ifMade (newOf 4369 1 .making) (newOf 4369 1 .registry) r ≡ newOf 4369 1 .registry
+unfolding newOf
+mapper-made r = refl

@@ -6,20 +6,15 @@
 mod answer;
 mod gather;
 mod line;
+mod run;
 mod script;
 mod text;
 
 pub use line::Item;
 pub use line::item_of;
-pub use script::Awaits;
-pub use script::Stepped;
-pub use script::Taken;
-pub use script::finish;
-pub use script::has_ended;
-pub use script::line;
-pub use script::start;
-pub use script::take;
+pub use run::run as run_script;
 
 // How many bytes an answer takes at most (a NAMES reply), and how many characters of a line are held.
-pub const ANSWER: usize = 14 + 2 * epmd_messages::replies::ROOM;
-pub const HELD: usize = 801;
+pub(crate) const ANSWER: usize = 14 + 2 * epmd_messages::replies::ROOM;
+
+pub(crate) const HELD: usize = 801;

@@ -40,9 +40,9 @@ pub(crate) enum Plan {
 }
 
 // What a step tells: the line that is awaited next, and how many bytes are to be printed.
-pub struct Stepped {
-    pub awaits: Awaits,
-    pub written: usize,
+pub(crate) struct Stepped {
+    pub(crate) awaits: Awaits,
+    pub(crate) written: usize,
 }
 
 // What was taken from a part of the input: the line that is awaited next, how many characters of a
@@ -139,7 +139,12 @@ pub fn has_ended(awaits: Awaits) -> bool
 }
 
 // A line, without its newline. What it prints is written from the first byte of out on.
-pub fn line(registry: &mut [u8; SIZE], awaits: Awaits, line: &[u8], out: &mut [u8]) -> Stepped
+pub(crate) fn step(
+    registry: &mut [u8; SIZE],
+    awaits: Awaits,
+    line: &[u8],
+    out: &mut [u8],
+) -> Stepped
     requires { ⌜ answerRoom ≤ length (now out) ⌝ }
     ensures { λ r. ⌜ Steps (lineOf (scriptIn awaits (now (registry .entry))) (now (line .entry))) r (now (registry .exit)) (now (out .entry)) (now (out .exit)) ⌝ }
 {
@@ -181,10 +186,11 @@ pub fn finish(registry: &mut [u8; SIZE], awaits: Awaits, held: &[u8], out: &mut 
     if held.len() == 0 {
         return end(awaits, out);
     }
-    let last = line(registry, awaits, held, out);
+    let last = step(registry, awaits, held, out);
     let n = last.written;
+    let next = last.awaits;
     if n == 0 {
-        return end(last.awaits, out);
+        return end(next, out);
     }
     n
 }
@@ -215,9 +221,10 @@ pub fn take(
         };
     }
     let next = end + 1;
-    let stepped = line(registry, awaits, wire::get_part(text, 0, h), out);
+    let stepped = step(registry, awaits, wire::get_part(text, 0, h), out);
+    let after = stepped.awaits;
     Taken {
-        awaits: stepped.awaits,
+        awaits: after,
         held: 0,
         next,
         written: stepped.written,

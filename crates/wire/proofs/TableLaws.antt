@@ -1,15 +1,15 @@
 -- Laws of parts of what was overwritten, and of a table of records in bytes: a record is read where it lies, and overwriting it changes it alone.
 -- Assumes nothing.
 use Prim.Native.Nat.{ℕ, zero, suc, _+_, _-_, _*_, _≤_, _<_}
-use mathlib.Core.Path.{_≡_, refl, sym, _∙_, ap, ap₂}
-use mathlib.Core.List.{List, [], _∷_, _++_}
+use mathlib.Core.Path.{_≡_, refl, sym, _∙_, ap, ap₂, subst}
+use mathlib.Core.List.{List, [], _∷_, _++_, append-assoc}
 use native.Mathlib.Nat.{suc-mul, zero-mul, mul-le-mul-right}
 use native.Mathlib.Omega.{arith}
-use lib.ListN.{length, getD, set, take, drop, replicate}
-use lib.Seq.{length-take-le}
+use lib.ListN.{length, getD, set, take, drop, replicate, length-append, take-append-drop, drop-of-length-le}
+use lib.Seq.{length-take-le, drop-drop}
 use Rattle.wire.specs.Run.{part}
 use Rattle.wire.specs.Output.{overwrite}
-use Rattle.wire.specs.Table.{table}
+use Rattle.wire.specs.Table.{table, tableBytes, Each}
 use Rattle.wire.proofs.RunLaws.{part-behind}
 
 -- ---- parts of what was overwritten: before it, behind it, and there
@@ -131,3 +131,35 @@ module _ {A : Type 0} (read : List ℕ → A) (w : ℕ) where
       ap₂ (λ (x : A) (l : List A). x ∷ l)
       (ap read (zeros-part o w m (omega (arith, h, suc-mul n w))) ∙ e)
       (table-zeros z e n (o + w) m (omega (arith, h, suc-mul n w)))
+
+-- ---- what was written is read back, and what was read is what would be written
+
+module _ {A : Type 0} (read : List ℕ → A) (write : A → List ℕ) (w : ℕ) where
+  -- a record that has its width and is read back
+  abbrev pub Kept : A → Type 0
+  Kept x = (length (write x) ≡ w) × (read (write x) ≡ x)
+
+  pub table-back : (xs : List A) (pre : List ℕ) (o : ℕ) → length pre ≡ o → Each Kept xs → table read w (length xs) o (pre ++ tableBytes write xs) ≡ xs
+  unfolding table tableBytes Each
+  table-back [] pre o e h = refl
+  table-back (x ∷ xs) pre o e h =
+      let rest : List ℕ = tableBytes write xs in
+      let q : pre ++ (write x ++ rest) ≡ (pre ++ write x) ++ rest = sym (append-assoc pre (write x) rest) in
+      let l : length (pre ++ write x) ≡ o + w = omega (arith, length-append pre (write x), e, h .0 .0) in
+      ap₂ (λ (y : A) (ys : List A). y ∷ ys)
+      (ap read (part-behind pre (write x) rest o w e (h .0 .0)) ∙ h .0 .1)
+      (ap (table read w (length xs) (o + w)) q ∙ table-back xs (pre ++ write x) (o + w) l (h .1))
+
+  pub table-only : (n o : ℕ) (b : List ℕ) → length b ≡ o + n * w
+      → ((i : ℕ) → i < n → write (read (part (o + i * w) w b)) ≡ part (o + i * w) w b) → tableBytes write (table read w n o b) ≡ drop o b
+  unfolding table tableBytes part
+  table-only zero o b l h =
+      let short : length b ≤ o = omega (arith, l, zero-mul w) in
+      sym (drop-of-length-le b short)
+  table-only (suc n) o b l h =
+      let z : o + 0 * w ≡ o = omega (arith, zero-mul w) in
+      let first : write (read (take w (drop o b))) ≡ take w (drop o b) = subst (λ (k : ℕ). write (read (take w (drop k b))) ≡ take w (drop k b)) z (h 0 (omega arith)) in
+      ap₂ (λ (x y : List ℕ). x ++ y) first
+      (table-only n (o + w) b (omega (arith, l, suc-mul n w)) (λ i k. let s : o + suc i * w ≡ o + w + i * w = omega (arith, suc-mul i w) in subst (λ (j : ℕ). write (read (take w (drop j b))) ≡ take w (drop j b)) s (h (suc i) (omega arith)))
+      ∙ sym (drop-drop w o b))
+      ∙ take-append-drop w (drop o b)

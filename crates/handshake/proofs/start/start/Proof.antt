@@ -3,7 +3,7 @@ use Rattle.handshake_rules.specs.Calls.{startOf, begun, silent, kept}
 use Rattle.wire.proofs.OutputLaws.{written-none}
 use lib.ListN.{length}
 use mathlib.Core.Path.{refl, sym, _∙_}
-use Rattle.handshake_state.specs.Bytes.{endpointOf, toldIn}
+use Rattle.handshake_state.specs.Bytes.{endpointOf}
 use borrow.Author.Needs.{needs}
 use Rattle.handshake.proofs.start.start.Statement.{statement}
 use Rattle.handshake.proofs.start.start.Tie as tie

@@ -8,7 +8,7 @@ use Rattle.handshake_rules.specs.declared.endpoint.Stage.the-variants.{AwaitsRe
 use Rattle.wire.proofs.OutputLaws.{overwrite-front}
 use mathlib.Core.Path.{ap, ap₂, _∙_, _≡_}
 use Prim.Native.Nat.{ℕ}
-use Rattle.handshake_state.specs.Bytes.{endpointOf, toldIn}
+use Rattle.handshake_state.specs.Bytes.{endpointOf}
 use borrow.Author.Needs.{needs}
 use Rattle.handshake_accepting.proofs.accepting.challenge_peer.Statement.{statement}
 use Rattle.handshake_accepting.proofs.accepting.challenge_peer.Tie as tie

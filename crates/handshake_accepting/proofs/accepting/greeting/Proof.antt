@@ -7,7 +7,7 @@ use Rattle.handshake_rules.specs.Endpoint.{isSlot, lowest}
 use Rattle.handshake_rules.specs.declared.endpoint.Sought.the-variants.{AcceptedFrom, StartedTo, ConnectedTo, AnyTaken}
 use Rattle.names.specs.Held.{nameBytes}
 use Rattle.wire.specs.Run.{order, sameBytes}
-use Rattle.handshake_state.specs.Bytes.{endpointOf, toldIn}
+use Rattle.handshake_state.specs.Bytes.{endpointOf}
 use borrow.Author.Tests.{lt-ltb, le-ltb}
 use native.Mathlib.Omega.{arith}
 use Prim.Native.Nat.{ℕ, _≤_}

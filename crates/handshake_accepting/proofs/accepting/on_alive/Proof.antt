@@ -9,7 +9,7 @@ use Rattle.handshake_rules.specs.declared.refusal.Refusal.the-variants.{Unknown
 use Rattle.wire.proofs.OutputLaws.{written-none}
 use mathlib.Core.List.{[]}
 use mathlib.Core.Path.{sym, ap, _∙_}
-use Rattle.handshake_state.specs.Bytes.{endpointOf, toldIn}
+use Rattle.handshake_state.specs.Bytes.{endpointOf}
 use borrow.Author.Needs.{needs}
 use Rattle.handshake_accepting.proofs.accepting.on_alive.Statement.{statement}
 use Rattle.handshake_accepting.proofs.accepting.on_alive.Tie as tie

@@ -14,7 +14,7 @@ use lib.ListN.{length}
 use mathlib.Core.List.{List}
 use mathlib.Core.Path.{sym, ap, ap₂, _∙_}
 use Prim.Native.Nat.{ℕ}
-use Rattle.handshake_state.specs.Bytes.{endpointOf, toldIn}
+use Rattle.handshake_state.specs.Bytes.{endpointOf}
 use borrow.Author.Needs.{needs}
 use Rattle.handshake_accepting.proofs.accepting.on_name.Statement.{statement}
 use Rattle.handshake_accepting.proofs.accepting.on_name.Tie as tie

@@ -9,7 +9,7 @@ use Rattle.wire.proofs.OutputLaws.{written-none}
 use mathlib.Core.List.{List}
 use mathlib.Core.Path.{sym, ap, _∙_}
 use Prim.Native.Nat.{ℕ}
-use Rattle.handshake_state.specs.Bytes.{endpointOf, toldIn}
+use Rattle.handshake_state.specs.Bytes.{endpointOf}
 use borrow.Author.Needs.{needs}
 use Rattle.handshake_accepting.proofs.accepting.recv_alive.Statement.{statement}
 use Rattle.handshake_accepting.proofs.accepting.recv_alive.Tie as tie

@@ -4,7 +4,7 @@ use Rattle.handshake_rules.specs.Plans.{refused, stagePlan, concluded}
 use Rattle.handshake_rules.specs.Endpoint.{slotAt}
 use Rattle.wire.proofs.OutputLaws.{written-none}
 use mathlib.Core.Path.{sym, _∙_}
-use Rattle.handshake_state.specs.Bytes.{endpointOf, toldIn}
+use Rattle.handshake_state.specs.Bytes.{endpointOf}
 use borrow.Author.Needs.{needs}
 use Rattle.handshake_accepting.proofs.accepting.recv_challenge_reply.Statement.{statement}
 use Rattle.handshake_accepting.proofs.accepting.recv_challenge_reply.Tie as tie

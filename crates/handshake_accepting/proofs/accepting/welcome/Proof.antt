@@ -1,6 +1,5 @@
 use Rattle.handshake_rules.specs.Messages.{challengeMessage}
 use mathlib.Core.Path.{ap₂}
-use Prim.Native.Nat.{_≤_}
 use Rattle.handshake_rules.proofs.MessageLaws.{challenge-size, status-size}
 use Rattle.handshake_rules.specs.Accepting.{welcomes}
 use Rattle.handshake_rules.specs.Plans.{answers, challengeOf}
@@ -11,8 +10,8 @@ use lib.ListN.{length, length-append}
 use native.Mathlib.Omega.{arith}
 use mathlib.Core.List.{List}
 use mathlib.Core.Path.{_≡_, sym, ap, _∙_}
-use Prim.Native.Nat.{ℕ, _+_, _≤_}
-use Rattle.handshake_state.specs.Bytes.{endpointOf, toldIn}
+use Prim.Native.Nat.{ℕ, _+_}
+use Rattle.handshake_state.specs.Bytes.{endpointOf}
 use borrow.Author.Needs.{needs}
 use Rattle.handshake_accepting.proofs.accepting.welcome.Statement.{statement}
 use Rattle.handshake_accepting.proofs.accepting.welcome.Tie as tie

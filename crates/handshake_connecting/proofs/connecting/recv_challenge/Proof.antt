@@ -10,7 +10,7 @@ use mathlib.Core.List.{List}
 use Rattle.wire.proofs.OutputLaws.{written-none}
 use native.Mathlib.Omega.{arith}
 use mathlib.Core.Path.{sym, ap, _∙_}
-use Rattle.handshake_state.specs.Bytes.{endpointOf, toldIn}
+use Rattle.handshake_state.specs.Bytes.{endpointOf}
 use borrow.Author.Needs.{needs}
 use Rattle.handshake_connecting.proofs.connecting.recv_challenge.Statement.{statement}
 use Rattle.handshake_connecting.proofs.connecting.recv_challenge.Tie as tie

@@ -3,7 +3,7 @@ use Rattle.handshake_rules.specs.Connecting.{expectAck}
 use Rattle.handshake_rules.specs.Plans.{Done}
 use Rattle.handshake_rules.specs.Endpoint.{slotAt}
 use mathlib.Core.Path.{sym, ap, _∙_}
-use Rattle.handshake_state.specs.Bytes.{endpointOf, toldIn}
+use Rattle.handshake_state.specs.Bytes.{endpointOf}
 use borrow.Author.Needs.{needs}
 use Rattle.handshake_connecting.proofs.connecting.recv_challenge_ack.Statement.{statement}
 use Rattle.handshake_connecting.proofs.connecting.recv_challenge_ack.Tie as tie

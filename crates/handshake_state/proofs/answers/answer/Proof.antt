@@ -1,7 +1,6 @@
 use Rattle.handshake_rules.specs.declared.endpoint.Answer.the-variants.{Answered}
 use Rattle.handshake_rules.specs.State.{Endpoint}
 use mathlib.Core.Path.{ap}
-use Rattle.handshake_state.specs.Bytes.{endpointOf, toldIn}
 use borrow.Author.Needs.{needs}
 use Rattle.handshake_state.proofs.answers.answer.Statement.{statement}
 use Rattle.handshake_state.proofs.answers.answer.Tie as tie

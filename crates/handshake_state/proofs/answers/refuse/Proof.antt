@@ -3,7 +3,7 @@ use Rattle.handshake_state.proofs.BytesLaws.{here-long}
 use Rattle.handshake_rules.proofs.SlotLaws.{spared-past, spared-kept, spared-freed}
 use Rattle.handshake_rules.specs.declared.endpoint.Answer.the-variants.{Refused}
 use Rattle.handshake_rules.specs.State.{Endpoint}
-use Rattle.handshake_state.specs.Bytes.{endpointOf, toldIn}
+use Rattle.handshake_state.specs.Bytes.{endpointOf}
 use borrow.Author.Tests.{not-true, not-false}
 use native.Mathlib.Omega.{arith}
 use mathlib.Core.Path.{sym, ap, _∙_}

@@ -1,7 +1,7 @@
 use Rattle.handshake_rules.specs.Plans.{answers}
 use Rattle.handshake_rules.specs.declared.endpoint.Freed.the-variants.{Nothing}
 use mathlib.Core.Path.{ap, _∙_}
-use Rattle.handshake_state.specs.Bytes.{endpointOf, toldIn}
+use Rattle.handshake_state.specs.Bytes.{endpointOf}
 use borrow.Author.Needs.{needs}
 use Rattle.handshake_state.proofs.answers.say.Statement.{statement}
 use Rattle.handshake_state.proofs.answers.say.Tie as tie

@@ -1,6 +1,6 @@
 use Rattle.handshake_rules.specs.Endpoint.{put}
 use mathlib.Core.Path.{ap, _∙_}
-use Rattle.handshake_state.specs.Bytes.{endpointOf, toldIn}
+use Rattle.handshake_state.specs.Bytes.{endpointOf}
 use borrow.Author.Needs.{needs}
 use Rattle.handshake_state.proofs.answers.without.Statement.{statement}
 use Rattle.handshake_state.proofs.answers.without.Tie as tie

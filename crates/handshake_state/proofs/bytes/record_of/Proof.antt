@@ -1,6 +1,4 @@
-use Prim.Native.Nat.{_+_, _*_}
 use mathlib.Core.Path.{_∙_, ap}
-use native.Mathlib.Omega.{arith}
 use lib.ListN.{length}
 use Rattle.wire.proofs.RunLaws.{part-length}
 use Rattle.handshake_state.specs.Bytes.{recordAt, slotSize}

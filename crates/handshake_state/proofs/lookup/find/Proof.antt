@@ -4,12 +4,10 @@ use Rattle.handshake_rules.specs.Endpoint.{sought, freeSlot}
 use Rattle.handshake_state.specs.Bytes.{slotsIn, slotBy, endpointOf}
 use Rattle.wire.proofs.LookupLaws.{first-skip, first-hit, first-end}
 use Rattle.wire.specs.Lookup.{firstAt}
-use Rattle.wire.specs.Run.{part}
 use lib.ListN.{length, drop, getD}
-use Prim.Native.Nat.{_≤_, _<_, _+_, _-_, _*_}
+use Prim.Native.Nat.{_≤_, _<_, _+_, _-_}
 use native.Mathlib.Omega.{arith}
-use mathlib.Core.Bool.{true, false}
-use mathlib.Core.Path.{_≡_, refl, sym, _∙_, ap}
+use mathlib.Core.Path.{_≡_, sym, _∙_, ap}
 use mathlib.Core.List.{List}
 use borrow.Author.Needs.{needs}
 use Rattle.handshake_state.proofs.lookup.find.Statement.{statement}

@@ -2,14 +2,14 @@ use Prim.Native.Nat.{_≤_, _-_}
 use mathlib.Core.Path.{_≡_}
 use lib.ListN.{length}
 use borrow.Author.Needs.{needs}
-use Rattle.script.proofs.take_part.Statement.{statement}
-use Rattle.script.proofs.take_part.Tie as tie
+use Rattle.script_lines.proofs.run.take_part.Statement.{statement}
+use Rattle.script_lines.proofs.run.take_part.Tie as tie
 
 abbrev Inv-loop : tie.InvT-loop
-Inv-loop held part line₀ out₀ at₀ line out at = (at .held ≤ 801) × (length line ≡ 801) × (length out ≡ length out₀)
+Inv-loop registry₀ held part text₀ out₀ at₀ registry text out at = (at .held ≤ 801) × (length text ≡ 801) × (length out ≡ length out₀)
 
 abbrev μ-loop : tie.MeasureT-loop
-μ-loop held part line₀ out₀ at₀ line out at = length part - at .next
+μ-loop registry₀ held part text₀ out₀ at₀ registry text out at = length part - at .next
 
 loop-holds : tie.Need-loop-holds Inv-loop μ-loop
 loop-holds c = search needs

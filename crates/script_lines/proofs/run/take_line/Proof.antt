@@ -3,13 +3,12 @@ use mathlib.Core.Path.{_≡_, ap}
 use mathlib.Core.List.{List}
 use native.Mathlib.Omega.{arith}
 use lib.ListN.{length, take, drop, length-drop}
-use Rattle.script_lines.specs.declared.script.Taken.{Taken}
-use Rattle.script_lines.specs.Lines.{takeOf}
+use Rattle.script_lines.specs.State.{scriptIn}
 use Rattle.script_lines.proofs.AnswerLaws.{written-holds}
 use Rattle.script_lines.proofs.TakeLaws.{take-goes, take-held}
 use borrow.Author.Needs.{needs}
-use Rattle.script.proofs.take_line.Statement.{statement}
-use Rattle.script.proofs.take_line.Tie as tie
+use Rattle.script_lines.proofs.run.take_line.Statement.{statement}
+use Rattle.script_lines.proofs.run.take_line.Tie as tie
 
 take-requires : tie.Need-take-requires
 take-requires c κs = search needs
@@ -17,7 +16,7 @@ take-requires c κs = search needs
 get-part-requires : tie.Need-get-part-requires
 get-part-requires c κs =
     let p = c .before .before .before .before .before .take in
-    omega (arith, written-holds _ _ _ (p .result .written) (p .ensures .1 .1) (ap (λ (x : Taken). x .written) (p .ensures .0)))
+    omega (arith, written-holds _ _ _ (p .result .written) (p .ensures .0 .output) (p .ensures .0 .count))
 
 write-all-requires : tie.Need-write-all-requires
 write-all-requires c κs = search needs
@@ -32,14 +31,14 @@ returns : tie.Need-returns
 returns c =
     let a = c .before .before .before .before .before .before .before .before .before .before .before .before .before .before .args in
     let p = c .before .before .before .before .before .before .before .take in
-    let s = a .at .script in
-    let held : List ℕ = take (a .at .held) (a .line .now) in
+    let s = scriptIn (a .at .awaits) (a .registry .now) in
+    let held : List ℕ = take (a .at .held) (a .text .now) in
     let xs : List ℕ = drop (a .at .next) (a .part .now) in
     let size : length xs ≡ length (a .part .now) - a .at .next = length-drop (a .at .next) (a .part .now) in
-    let h : p .result .held ≡ length (takeOf s held xs .held) = ap (λ (x : Taken). x .held) (p .ensures .0) in
-    let n : p .result .next ≡ length (a .part .now) - length (takeOf s held xs .rest) = ap (λ (x : Taken). x .next) (p .ensures .0) in
-    let pre = c .before .before .before .before .before .before .before .before .before .before .before .before .before .before .pre in
-    (omega (arith, h, take-held s held xs), omega (arith, n, take-goes s held xs (omega (arith, size, pre .1))))
+    let t = p .ensures .0 in (
+      t,
+      (p .ensures .1, (omega (arith, t .held, take-held s held xs), omega (arith, t .next, take-goes s held xs (omega (arith, size, c .before .before .before .before .before .before .before .before .before .before .before .before .before .before .pre .1))))),
+    )
 
 pub take-line-spec : {M : Type 1} → statement M
 take-line-spec =

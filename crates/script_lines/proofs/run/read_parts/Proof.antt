@@ -1,15 +1,17 @@
+use native.Mathlib.Omega.{arith}
+use Rattle.script_lines.proofs.AnswerLaws.{written-holds}
 use Prim.Native.Nat.{_≤_}
 use mathlib.Core.Path.{_≡_}
 use lib.ListN.{length}
 use borrow.Author.Needs.{needs}
-use Rattle.script.proofs.run.Statement.{statement}
-use Rattle.script.proofs.run.Tie as tie
+use Rattle.script_lines.proofs.run.read_parts.Statement.{statement}
+use Rattle.script_lines.proofs.run.read_parts.Tie as tie
 
 abbrev Inv-loop : tie.InvT-loop
-Inv-loop part₀ line₀ out₀ at₀ reads₀ part line out at reads = (at .held ≤ 801) × (length part ≡ length part₀) × (length line ≡ 801) × (length line ≡ length line₀) × (length out ≡ length out₀)
+Inv-loop registry₀ part₀ text₀ out₀ at₀ reads₀ registry part text out at reads = (at .held ≤ 801) × (length part ≡ length part₀) × (length text ≡ 801) × (length text ≡ length text₀) × (length out ≡ length out₀)
 
 abbrev μ-loop : tie.MeasureT-loop
-μ-loop part₀ line₀ out₀ at₀ reads₀ part line out at reads = reads
+μ-loop registry₀ part₀ text₀ out₀ at₀ reads₀ registry part text out at reads = reads
 
 start-requires : tie.Need-start-requires Inv-loop μ-loop
 start-requires c κs = search needs
@@ -23,8 +25,19 @@ read-requires c κs = search needs
 count-requires : tie.Need-count-requires Inv-loop μ-loop
 count-requires c κs = search needs
 
+get-part-requires : tie.Need-get-part-requires Inv-loop μ-loop
+get-part-requires c κs = search needs
+
 finish-requires : tie.Need-finish-requires Inv-loop μ-loop
 finish-requires c κs = search needs
+
+get-part-requires-2 : tie.Need-get-part-requires-2 Inv-loop μ-loop
+get-part-requires-2 c κs =
+    let f = c .before .before .before .finish in
+    omega (arith, written-holds _ _ _ (f .result) (f .ensures .1) (f .ensures .0))
+
+write-all-requires : tie.Need-write-all-requires Inv-loop μ-loop
+write-all-requires c κs = search needs
 
 same-length : tie.Need-same-length Inv-loop μ-loop
 same-length c = search needs
@@ -38,8 +51,8 @@ same-length-3 c = search needs
 returns : tie.Need-returns Inv-loop μ-loop
 returns c = search needs
 
-get-part-requires : tie.Need-get-part-requires Inv-loop μ-loop
-get-part-requires c κs = search needs
+get-part-requires-3 : tie.Need-get-part-requires-3 Inv-loop μ-loop
+get-part-requires-3 c κs = search needs
 
 take-part-requires : tie.Need-take-part-requires Inv-loop μ-loop
 take-part-requires c κs = search needs
@@ -80,8 +93,8 @@ same-length-9 c = search needs
 returns-3 : tie.Need-returns-3 Inv-loop μ-loop
 returns-3 c = search needs
 
-pub run-spec : {M : Type 1} → statement M
-run-spec =
+pub read-parts-spec : {M : Type 1} → statement M
+read-parts-spec =
     tie.close
     (tie.spec
     Inv-loop
@@ -90,12 +103,15 @@ run-spec =
     loop-holds
     read-requires
     count-requires
+    get-part-requires
     finish-requires
+    get-part-requires-2
+    write-all-requires
     same-length
     same-length-2
     same-length-3
     returns
-    get-part-requires
+    get-part-requires-3
     take-part-requires
     has-ended-requires
     same-length-4
