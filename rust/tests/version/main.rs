@@ -1,5 +1,6 @@
 //! A library of another version is told, and no call comes to it. The library here is a small one in
-//! C that says of itself what the test wants; the example `version` is linked with it.
+//! C that says of itself what the test wants; the example `version` and a host in C are linked with
+//! it.
 
 use std::path::{Path, PathBuf};
 use std::process::{Command, Output};
@@ -13,9 +14,9 @@ fn run(command: &mut Command) {
     assert!(output.status.success(), "{command:?}: {said}");
 }
 
-/// The example, linked with the library of another version.
-fn example() -> PathBuf {
-    let folder = Path::new(env!("CARGO_TARGET_TMPDIR")).join("version");
+/// Makes the library of another version, in a folder of the test's own.
+fn library(folder: &str) -> PathBuf {
+    let folder = Path::new(env!("CARGO_TARGET_TMPDIR")).join(folder);
     std::fs::create_dir_all(&folder).unwrap();
     let object = folder.join("other.o");
     let library = folder.join("libbirkenschuh.a");
@@ -24,6 +25,12 @@ fn example() -> PathBuf {
         .arg(&object));
     let _ = std::fs::remove_file(&library);
     run(Command::new("ar").arg("crs").arg(&library).arg(&object));
+    folder
+}
+
+/// The example, linked with the library of another version.
+fn example() -> PathBuf {
+    let folder = library("version");
     run(Command::new(env!("CARGO"))
         .args(["build", "--quiet", "--offline", "--example", "version"])
         .arg("--target-dir")
@@ -66,4 +73,19 @@ fn another_version_is_told_before_a_state_is_made() {
     }
     let output = made(&example, "", "");
     assert_eq!(output.stdout, b"the library fits\n");
+}
+
+#[test]
+fn a_host_in_c_is_told_too() {
+    let folder = library("matches");
+    let host = folder.join("matches");
+    run(Command::new("cc")
+        .args(["-I../include", "tests/version/matches.c"])
+        .arg(folder.join("libbirkenschuh.a"))
+        .arg("-o")
+        .arg(&host));
+    for (other, code) in [("", 0), ("abi", 1), ("registry", 1), ("endpoint", 1)] {
+        let status = Command::new(&host).env("OTHER", other).status().unwrap();
+        assert_eq!(status.code(), Some(code), "{other}");
+    }
 }
