@@ -7,6 +7,9 @@ HEADER := include/birkenschuh.h
 RATTLE := $(shell find crates \( -path '*/src*' -o -path '*/specs*' -o -path '*/proofs*' \)) crates.txt
 CARGO := cargo --quiet
 
+# What a failed rule left behind must not be taken for its result.
+.DELETE_ON_ERROR:
+
 .PHONY: check check-all lib check-host check-scripts bench
 
 # Every crate proved and every program run (not the edits that must be refused: those are the gate's), then the tests from
