@@ -1,5 +1,6 @@
 # The port mapper for real Erlang nodes. Included by the Makefile at the top; all paths are from there.
 #
+#   make program                  prove and build it
 #   make run ARGS='--port 4369'   prove, build and start it
 #   make check-interop            its tests, with real Erlang nodes and against the real epmd
 #   make bench-epmd               look-ups a second, against the real epmd
@@ -8,9 +9,11 @@ PROGRAM := rust/target/release/birken-epmd
 PROGRAM_SOURCES := $(shell find rust/src rust/epmd/src -name '*.rs') \
     rust/build.rs rust/Cargo.toml rust/Cargo.lock rust/epmd/Cargo.toml
 
-.PHONY: run need-program check-interop bench-epmd erlang
+.PHONY: program run need-program check-interop bench-epmd erlang
 
-run: need-program $(PROGRAM)
+program: need-program $(PROGRAM)
+
+run: program
 	@exec $(PROGRAM) $(ARGS)
 
 $(PROGRAM): $(LIB) $(PROGRAM_SOURCES)

@@ -21,7 +21,7 @@ fill = sed -e 's|@PREFIX@|$(PREFIX)|g; s|@BINDIR@|$(BINDIR)|g; s|@LIBDIR@|$(LIBD
 
 .PHONY: install uninstall
 
-install: need-program $(LIB) $(PROGRAM)
+install: program
 	@install -D -m 755 $(PROGRAM) '$(DESTDIR)$(BINDIR)/birken-epmd'
 	@install -D -m 644 $(LIB) '$(DESTDIR)$(LIBDIR)/libbirkenschuh.a'
 	@install -D -m 644 $(HEADER) '$(DESTDIR)$(INCLUDEDIR)/birkenschuh.h'
