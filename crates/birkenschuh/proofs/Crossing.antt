@@ -3,7 +3,6 @@ use Prim.Native.Nat.{ℕ}
 use mathlib.Core.Path.{_≡_, refl, ap}
 use mathlib.Core.Bool.{Bool, true, false, cond}
 use mathlib.Core.List.{List, []}
-use lib.Dec.{ltb}
 use Rattle.wire.specs.Run.{sameBytes, order}
 use Rattle.names.specs.Held.{nameBytes}
 use Rattle.handshake_rules.specs.State.{Endpoint, Told}
@@ -19,11 +18,11 @@ use Rattle.handshake_rules.specs.declared.accepting.Greeting.the-variants.{NotA
 use Rattle.handshake_rules.specs.declared.connecting.Reaction.{Reaction}
 use Rattle.handshake_rules.specs.declared.connecting.Reaction.the-variants.{Proceed, Confirm, GiveUp, Unknown}
 use Rattle.handshake_rules.specs.Answers.{freedNumber}
-use Rattle.handshake_rules.specs.Cookie.{Cookies, checking, writing, fit, digestOf}
+use Rattle.handshake_rules.specs.Cookie.{checking, writing, fit, digestOf}
 use Rattle.handshake_rules.specs.Endpoint.{freeSlot, slotAt, lowest, isSlot, lowestFree, freedAt}
 use Rattle.handshake_rules.specs.Messages.{nameFlags, nameCreation, nameName, statusWord, trueWord, falseWord}
-use Rattle.handshake_rules.specs.Plans.{Done, Act, stop, go, Plan, sure, proven, does, fails, sent, challengeOf, judged, settled, finished, concluded}
-use Rattle.handshake_rules.specs.Accepting.{isGreater, contest, greeting, onName, onAlive, older}
+use Rattle.handshake_rules.specs.Plans.{Done, stop, go, Plan, sure, proven, does, fails, sent, challengeOf, judged, settled, finished, concluded}
+use Rattle.handshake_rules.specs.Accepting.{isGreater, contest, greeting, onName, onAlive}
 use Rattle.handshake_rules.specs.Connecting.{reaction, onStatus}
 use Rattle.handshake_rules.specs.Calls.{kept, silent, begun, arrived, startTests, startOf, arriveTests, arriveOf, closeTests, closeOf, expected, awaited, messageTests, plan, messageOf}
 use Rattle.handshake_rules.proofs.CheckLaws.{not-not, unless-elim}

@@ -1,7 +1,7 @@
 // Replies (01, The mapper), written from the first byte of the output on.
 ghost use mathlib.Core.Path.{_≡_};
 ghost use Prim.Native.Nat.{_+_, _≤_};
-ghost use mathlib.Core.List.{[], _∷_, _++_};
+ghost use mathlib.Core.List.{[], _∷_};
 ghost use lib.ListN.{length};
 ghost use Rattle.wire.specs.Decimal.{decimal};
 ghost use Rattle.wire.specs.Output.{overwrite, written};

@@ -1,6 +1,6 @@
 -- Theorems of what is registered and asked for, in every registry that making and calls can give (specs/Claims). Assumes nothing.
 use Prim.Native.Nat.{ℕ, _+_, _≤_, _<_}
-use mathlib.Core.Path.{_≡_, refl, sym, ap, _∙_}
+use mathlib.Core.Path.{_≡_, refl, ap, _∙_}
 use mathlib.Core.Bool.{Bool, true, false, cond, _&&_, not}
 use mathlib.Core.List.{List, [], _∷_, _++_}
 use native.Mathlib.Omega.{arith}
@@ -22,13 +22,13 @@ use Rattle.epmd_rules.specs.declared.request.Request.{Request}
 use Rattle.epmd_rules.specs.declared.request.Request.the-variants.{Refused, Alive2, PortPlease2, Names}
 use Rattle.epmd_rules.specs.Messages.{alive2Req, alive2XResp, alive2Resp, portPlease2Req}
 use Rattle.epmd_rules.specs.Registration.{free, isFree, extraBytes, hasName, hasConnection}
-use Rattle.epmd_rules.specs.Registry.{entryAt, byName, byConnection, filled, closeOf}
+use Rattle.epmd_rules.specs.Registry.{entryAt, byName, byConnection, filled}
 use Rattle.epmd_rules.specs.Requests.{room, examineBody, examineOf}
 use Rattle.epmd_rules.specs.Replies.{creationField, shortCreation, alive2Reply, port2Found, port2Missing, port2Reply}
-use Rattle.epmd_rules.specs.Serve.{Outcome, replied, resultOf, registrationOf, alive2Of, port2Of, namesOf, outcomeOf, requestOf}
+use Rattle.epmd_rules.specs.Serve.{replied, resultOf, registrationOf, alive2Of, port2Of, namesOf, outcomeOf, requestOf}
 use Rattle.epmd_rules.specs.Claims.{Reachable, CloseKeeps, AskedFound, CallFinds, RepliesFit}
 use Rattle.epmd_rules.proofs.RequestLaws.{framed-body, port2-asked}
-use Rattle.epmd_rules.proofs.ReplyLaws.{headWith, port2-split}
+use Rattle.epmd_rules.proofs.ReplyLaws.{port2-split}
 use Rattle.epmd_rules.proofs.ServeLaws.{call-asked}
 use Rattle.epmd_rules.proofs.Calls.{Afterwards, none-freed, one-freed, after-close}
 use Rattle.epmd_rules.proofs.Reachable.{always-sound, names-fit}

@@ -1,6 +1,6 @@
 -- The next creation, call by call (specs/Claims). Assumes nothing.
-use Prim.Native.Nat.{ℕ, _≤_, _<_}
-use mathlib.Core.Path.{_≡_, refl, sym, ap, _∙_}
+use Prim.Native.Nat.{ℕ}
+use mathlib.Core.Path.{_≡_, refl, ap, _∙_}
 use mathlib.Core.Bool.{Bool, true, false, cond, _&&_}
 use mathlib.Core.List.{List}
 use native.Mathlib.Omega.{arith}
@@ -14,7 +14,6 @@ use Rattle.epmd_rules.specs.declared.request.Request.{Request}
 use Rattle.epmd_rules.specs.declared.request.Request.the-variants.{Refused, Alive2, PortPlease2, Names}
 use Rattle.epmd_rules.specs.Messages.{alive2Req}
 use Rattle.epmd_rules.specs.Registry.{stepped, filled}
-use Rattle.epmd_rules.specs.Registration.{free}
 use Rattle.epmd_rules.specs.Requests.{examineOf}
 use Rattle.epmd_rules.specs.Serve.{Outcome, resultOf, registrationOf, requestOf}
 use Rattle.epmd_rules.specs.Claims.{request, close, isAlive2, registers, NextSteps}

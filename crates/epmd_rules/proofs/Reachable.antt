@@ -1,20 +1,20 @@
 -- Theorems of every registry that making and calls can give (specs/Claims). Assumes nothing.
-use Prim.Native.Nat.{ℕ, zero, suc, _+_, _-_, _*_, _^_, _≤_, _<_}
+use Prim.Native.Nat.{ℕ, suc, _-_, _*_, _≤_, _<_}
 use mathlib.Core.Path.{_≡_, refl, sym, ap, subst, _∙_}
 use mathlib.Core.Bool.{Bool, true, false, cond, _&&_, not}
-use mathlib.Core.List.{List, [], _∷_, _++_}
+use mathlib.Core.List.{List, [], _∷_}
 use native.Mathlib.Omega.{arith}
-use borrow.Author.Tests.{eq-eqb, ne-eqb, eqb-true, eqb-false, lt-ltb, ltb-true, ltb-false, leb-true}
-use lib.Dec.{eqb, ltb, leb}
-use lib.ListN.{length, getD, set, replicate, length-set, length-replicate, getD-replicate, length-append}
+use borrow.Author.Tests.{eq-eqb, ne-eqb, eqb-true, eqb-false, lt-ltb, ltb-false}
+use lib.Dec.{eqb, ltb}
+use lib.ListN.{length, getD, replicate, length-set, length-replicate, getD-replicate, length-append}
 use lib.Seq.{getD-set-same, getD-set-other, take-at}
 use Rattle.wire.specs.Claims.{Octets}
 use Rattle.wire.specs.Run.{sameBytes}
 use Rattle.wire.specs.Frame.{body}
-use Rattle.wire.specs.Layout.{intAt, runAt}
+use Rattle.wire.specs.Layout.{runAt}
 use Rattle.wire.proofs.RunLaws.{same-decides}
 use Rattle.wire.proofs.NumberLaws.{octets-drop, beAt-fits}
-use Rattle.wire.proofs.LookupLaws.{first-passes, first-before, first-is}
+use Rattle.wire.proofs.LookupLaws.{first-before, first-is}
 use Rattle.names.specs.Held.{nameOf, nameBytes}
 use Rattle.names.specs.Node.{nodeName}
 use Rattle.names.proofs.HeldLaws.{name-back}
@@ -25,12 +25,12 @@ use Rattle.epmd_rules.specs.declared.refusal.Refusal.the-variants.{ZeroC
 use Rattle.epmd_rules.specs.declared.request.Request.the-variants.{Alive2}
 use Rattle.epmd_rules.specs.Messages.{alive2Req}
 use Rattle.epmd_rules.specs.Registration.{free, isFree, extraOf, extraBytes, hasName, hasConnection}
-use Rattle.epmd_rules.specs.Registry.{fresh, newOf, entryAt, byName, byConnection, lowestFree, stepped, filled, closeOf}
+use Rattle.epmd_rules.specs.Registry.{fresh, newOf, entryAt, byName, byConnection, lowestFree, stepped, filled}
 use Rattle.epmd_rules.specs.Requests.{lineRoom, examineOf}
 use Rattle.epmd_rules.specs.Replies.{port2Found, port2Reply, nameLines, lineOf, namesReply}
 use Rattle.epmd_rules.specs.Serve.{Outcome, resultOf, registrationOf, requestOf}
-use Rattle.epmd_rules.specs.Claims.{Reachable, made, requested, closed, PlaceSound, RegistrySound, AlwaysSound, RegisteredFound, NamesFit}
-use Rattle.epmd_rules.proofs.Calls.{step-within, After, same, more, after-request, filled-here, filled-other, lowest-is-free, Afterwards, none-freed, one-freed, after-close, without, free-is-free}
+use Rattle.epmd_rules.specs.Claims.{made, requested, closed, PlaceSound, RegistrySound, AlwaysSound, RegisteredFound, NamesFit}
+use Rattle.epmd_rules.proofs.Calls.{step-within, After, same, more, after-request, filled-here, filled-other, Afterwards, none-freed, one-freed, after-close, without, free-is-free}
 use Rattle.epmd_rules.proofs.RequestLaws.{alive2-body, alive2-name-some, alive2-named}
 use Rattle.epmd_rules.proofs.ReplyLaws.{line-within}
 use Rattle.epmd_rules.proofs.ServeLaws.{call-asked, alive2-fills, result-free}

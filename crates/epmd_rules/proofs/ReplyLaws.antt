@@ -1,5 +1,5 @@
 -- Laws of the replies as code writes them. Assumes nothing.
-use Prim.Native.Nat.{ℕ, zero, suc, _+_, _*_, _≤_, _<_}
+use Prim.Native.Nat.{ℕ, suc, _+_, _≤_, _<_}
 use mathlib.Core.Path.{_≡_, refl, sym, ap, ap₂, _∙_}
 use mathlib.Core.Bool.{Bool, true, false, cond}
 use mathlib.Core.List.{List, [], _∷_, _++_, append-assoc, append-nil}
@@ -10,7 +10,7 @@ use lib.Seq.{take-suc, take-all}
 use Rattle.wire.specs.Number.{be}
 use Rattle.wire.specs.Output.{overwrite, written}
 use Rattle.wire.specs.Decimal.{decimal}
-use Rattle.wire.specs.Layout.{int, run, encode}
+use Rattle.wire.specs.Layout.{int, encode}
 use Rattle.wire.proofs.OutputLaws.{overwrite-none, overwrite-front, overwrite-next, overwrite-join}
 use Rattle.wire.proofs.DecimalLaws.{decimal-within}
 use Rattle.names.specs.Held.{nameBytes}

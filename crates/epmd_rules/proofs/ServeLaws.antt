@@ -1,10 +1,10 @@
 -- Laws of the calls, by the cases that code makes. Assumes nothing.
 use Prim.Native.Nat.{ℕ, _≤_, _<_}
-use mathlib.Core.Path.{_≡_, refl, sym, ap, _∙_}
+use mathlib.Core.Path.{_≡_, refl, ap}
 use mathlib.Core.Bool.{Bool, true, false, cond}
 use mathlib.Core.List.{List}
 use native.Mathlib.Omega.{arith}
-use borrow.Author.Tests.{eq-eqb, ne-eqb, lt-ltb, ltb-true, ltb-false}
+use borrow.Author.Tests.{eq-eqb, ne-eqb, ltb-true}
 use lib.Dec.{eqb, ltb}
 use Rattle.wire.specs.Frame.{body}
 use Rattle.wire.specs.Layout.{intAt, runAt}
@@ -14,7 +14,7 @@ use Rattle.epmd_rules.specs.Messages.{alive2Req}
 use Rattle.epmd_rules.specs.Registry.{byName, byConnection, lowestFree, filled}
 use Rattle.epmd_rules.specs.Requests.{examineOf}
 use Rattle.epmd_rules.specs.Replies.{alive2Reply}
-use Rattle.epmd_rules.specs.Serve.{Outcome, replied, resultOf, registrationOf, alive2Of, outcomeOf, requestOf}
+use Rattle.epmd_rules.specs.Serve.{replied, resultOf, registrationOf, alive2Of, outcomeOf, requestOf}
 
 -- a call is what its frame asks for
 pub call-asked : (r : Registry) (c : ℕ) (frame : List ℕ) (given : ℕ) (q : Request) → examineOf frame given ≡ q → requestOf r c frame given ≡ outcomeOf r c (body frame) q

@@ -1,15 +1,14 @@
 -- 01, The mapper. "A registry holds its own port number (0 to 65,535), the next creation (1 to 4,294,967,295, given at the start; 0 is refused
 -- with 17) and 64 places."
 use Prim.Native.Nat.{ℕ, _+_}
-use mathlib.Core.Bool.{Bool, true, false, cond}
+use mathlib.Core.Bool.{true, false, cond}
 use mathlib.Core.List.{List}
-use lib.ListN.{length, getD, set, replicate}
+use lib.ListN.{getD, set, replicate}
 use lib.Dec.{eqb, ltb}
 use Rattle.wire.specs.Lookup.{firstAt}
 use Rattle.epmd_rules.specs.declared.refusal.Refusal.the-variants.{ZeroCreation}
 use Rattle.epmd_rules.specs.declared.registration.Registration.{Registration}
 use Rattle.epmd_rules.specs.State.{Registry}
-use Rattle.epmd_rules.specs.declared.answer.Making.{Making}
 use Rattle.epmd_rules.specs.declared.answer.Making.the-variants.{Ready, Refused}
 use Rattle.epmd_rules.specs.State.{Made}
 use Rattle.epmd_rules.specs.State.{Closed}

@@ -1,9 +1,9 @@
 -- What a frame asks for, or the number with which it is refused.
 use Prim.Native.Nat.{ℕ, _+_, _*_}
-use mathlib.Core.Bool.{Bool, true, false, cond, _&&_, _||_, not}
+use mathlib.Core.Bool.{Bool, true, cond, _&&_, _||_, not}
 use mathlib.Core.List.{List, [], _∷_}
 use lib.ListN.{length}
-use lib.Dec.{eqb, leb, ltb}
+use lib.Dec.{eqb, leb}
 use Rattle.wire.specs.Frame.{isFrame, body}
 use Rattle.wire.specs.Layout.{extent, behind, intAt, runAt}
 use Rattle.names.specs.Node.{nodeName}

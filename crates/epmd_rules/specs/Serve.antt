@@ -1,10 +1,10 @@
 -- One call of the mapper: what it tells, the registry after it, and the bytes that it writes.
 use Prim.Native.Nat.{ℕ, _≤_}
 use mathlib.Core.Path.{_≡_}
-use mathlib.Core.Bool.{Bool, cond}
+use mathlib.Core.Bool.{cond}
 use mathlib.Core.List.{List, []}
 use lib.ListN.{length}
-use lib.Dec.{eqb, leb, ltb}
+use lib.Dec.{eqb, ltb}
 use Rattle.wire.specs.Frame.{body}
 use Rattle.wire.specs.Layout.{extent, behind, intAt, runAt}
 use Rattle.names.specs.Held.{nameOf}

@@ -1,9 +1,9 @@
 -- Laws of the answer's lines, and of what the mapper answers. Assumes nothing.
 use Prim.Native.Nat.{ℕ, _+_, _*_, _≤_, _<_}
-use mathlib.Core.Path.{_≡_, refl, sym, ap}
+use mathlib.Core.Path.{_≡_, sym, ap}
 use mathlib.Core.List.{List, [], _∷_, _++_, append-assoc}
 use native.Mathlib.Omega.{arith}
-use lib.ListN.{length, take, drop, length-append, length-drop}
+use lib.ListN.{length, take, drop, length-append}
 use lib.Seq.{take-at}
 use Rattle.wire.specs.Decimal.{decimal}
 use Rattle.wire.specs.Output.{written}
@@ -54,10 +54,6 @@ failure-fits = omega (arith, answer-length 19 [], decimal-within 2 19 (omega ari
 pub written-front : (bs xs : List ℕ) (n : ℕ) → n ≡ length bs → take n (written bs xs) ≡ bs
 unfolding written
 written-front bs xs n e = take-at bs (drop (length bs) xs) n (sym e)
-
-pub written-fits : (bs xs ys : List ℕ) → ys ≡ written bs xs → length ys ≡ length xs → length bs ≤ length xs
-unfolding written
-written-fits bs xs ys e l = omega (arith, simp (length-append, length-drop) at (ap length e))
 
 pub written-holds : (bs xs ys : List ℕ) (n : ℕ) → ys ≡ written bs xs → n ≡ length bs → n ≤ length ys
 unfolding written

@@ -84,16 +84,6 @@ module _ (l : List ℕ) where
     by false p false false true q f = record { key = starts-fits hexKey l q; short = ltb-false 800 (length l) p; text = hex-text f }
     by false p false false false q f = let z : _≡_ {A = ℕ} 0 1 = cc in absurd (omega arith)
 
--- the input's end
-module _ (s : Script) where
-  pub end-inside : insideGroup (s .awaits) ≡ true → endOf s ≡ failed (s .registry)
-  unfolding endOf
-  end-inside e = rw e
-
-  pub end-outside : insideGroup (s .awaits) ≡ false → endOf s ≡ quiet (s .registry) (s .awaits)
-  unfolding endOf
-  end-outside e = rw e
-
 -- the line of a plan that serves a frame
 pub serve-line : (s : Script) (l : List ℕ) (i : Item) (p : Plan) (c : ℕ) → i ≡ itemOf l → p ≡ planOf (s .awaits) i → p ≡ Serve c → HexLine l
 serve-line s l i p c e f g = hex-line l (sym e ∙ serve-hex (s .awaits) i c (sym f ∙ g))

@@ -1,5 +1,5 @@
 use mathlib.Core.Path.{_≡_, refl, sym, _∙_, ap, ap₂}
-use Prim.Native.Nat.{ℕ, _≤_, _<_}
+use Prim.Native.Nat.{ℕ}
 use mathlib.Core.List.{List}
 use mathlib.Core.Bool.{cond}
 use native.Mathlib.Omega.{arith}
@@ -7,8 +7,6 @@ use lib.ListN.{length}
 use lib.Dec.{eqb}
 use Rattle.wire.specs.Layout.{runAt}
 use Rattle.wire.specs.Output.{written}
-use Rattle.epmd_rules.specs.State.{Registry}
-use Rattle.epmd_rules.specs.declared.registration.Registration.{Registration}
 use Rattle.epmd_rules.specs.declared.answer.Answer.the-variants.{Written}
 use Rattle.epmd_rules.specs.Messages.{alive2Req}
 use Rattle.epmd_rules.specs.Registry.{lowestFree, filled}

@@ -1,5 +1,4 @@
 use borrow.Author.Tests.{eq-eqb, ne-eqb}
-use borrow.Author.Needs.{needs}
 use Rattle.epmd_messages.proofs.replies.creation_field.Statement.{statement}
 use Rattle.epmd_messages.proofs.replies.creation_field.Tie as tie
 

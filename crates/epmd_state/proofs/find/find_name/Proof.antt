@@ -1,7 +1,6 @@
 use mathlib.Core.Path.{sym, _∙_}
 use Prim.Native.Nat.{_-_, _+_}
 use native.Mathlib.Omega.{arith}
-use lib.ListN.{length}
 use borrow.Author.Needs.{needs}
 use Rattle.epmd_rules.specs.Registration.{hasName}
 use Rattle.epmd_rules.specs.Registry.{byName}

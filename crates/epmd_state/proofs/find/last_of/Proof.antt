@@ -1,7 +1,5 @@
-use mathlib.Core.Path.{_≡_, refl, sym, ap}
-use Prim.Native.Nat.{ℕ, _-_}
-use mathlib.Core.List.{List, [], _∷_}
-use lib.ListN.{length, getD}
+use mathlib.Core.Path.{sym}
+use Prim.Native.Nat.{_-_}
 use Rattle.epmd_state.proofs.LentLaws.{empty-last}
 use borrow.Author.Needs.{needs}
 use Rattle.epmd_state.proofs.find.last_of.Statement.{statement}

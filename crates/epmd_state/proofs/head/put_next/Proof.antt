@@ -1,5 +1,4 @@
 use mathlib.Core.Path.{_∙_, ap}
-use Rattle.wire.specs.Output.{overwrite}
 use Rattle.epmd_state.specs.Lent.{registryOf}
 use Rattle.epmd_state.proofs.LentLaws.{next-here}
 use borrow.Author.Needs.{needs}

@@ -1,12 +1,12 @@
-use mathlib.Core.Path.{_≡_, refl, sym, _∙_, ap, ap₂}
+use mathlib.Core.Path.{_≡_, _∙_, ap}
 use Prim.Native.Nat.{ℕ, _+_, _*_}
 use mathlib.Core.List.{List, _++_}
 use native.Mathlib.Omega.{arith}
-use lib.ListN.{length, length-append}
+use lib.ListN.{length}
 use Rattle.wire.specs.Number.{be}
 use Rattle.wire.specs.Output.{overwrite}
 use Rattle.wire.specs.Layout.{encode, Fits}
-use Rattle.epmd_state.specs.Lent.{headSize, entrySize, tailAt, tailL, entryL, tailValues, entryValues, entryBytes, registryOf}
+use Rattle.epmd_state.specs.Lent.{headSize, entrySize, tailAt, tailL, entryL, tailValues, entryValues, registryOf}
 use Rattle.epmd_state.proofs.LentLaws.{Put, then, put-here, entry-split}
 use borrow.Author.Needs.{needs}
 use Rattle.epmd_state.proofs.put.put.Statement.{statement}

@@ -1,9 +1,7 @@
-use mathlib.Core.Path.{_≡_}
-use Prim.Native.Nat.{ℕ, _+_, _≤_, _<_}
+use Prim.Native.Nat.{_+_, _≤_}
 use native.Mathlib.Omega.{arith}
 use lib.ListN.{length}
 use Rattle.wire.specs.Number.{be}
-use Rattle.wire.specs.Output.{overwrite}
 use Rattle.epmd_state.specs.Lent.{tailAt}
 use Rattle.epmd_state.proofs.LentLaws.{Put, then}
 use borrow.Author.Needs.{needs}

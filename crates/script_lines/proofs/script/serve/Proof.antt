@@ -1,14 +1,12 @@
 use Prim.Native.Nat.{ℕ}
-use mathlib.Core.Path.{_≡_, refl, sym, ap, ap₂, _∙_}
+use mathlib.Core.Path.{_≡_, sym, ap, _∙_}
 use mathlib.Core.List.{List}
 use native.Mathlib.Omega.{arith}
 use lib.ListN.{length, take, replicate}
 use lib.Seq.{length-take-le}
 use Rattle.wire.specs.Output.{written}
 use Rattle.epmd_rules.specs.State.{Registry}
-use Rattle.epmd_rules.specs.declared.answer.Answer.{Answer}
 use Rattle.epmd_rules.specs.declared.answer.Numbers.{Numbers}
-use Rattle.epmd_rules.specs.Answers.{numbersOf}
 use Rattle.epmd_rules.specs.Requests.{room}
 use Rattle.epmd_rules.specs.Serve.{requestOf}
 use Rattle.epmd_rules.specs.Serve as mapper
@@ -16,10 +14,10 @@ use Rattle.epmd_rules.proofs.Calls.{refusal-keeps}
 use Rattle.epmd_state.specs.Lent.{registryOf}
 use Rattle.script_lines.specs.declared.script.Awaits.the-variants.{Operation}
 use Rattle.script_lines.specs.Text.{unhex}
-use Rattle.script_lines.specs.Answer.{answerText, resultNumber}
+use Rattle.script_lines.specs.Answer.{answerText}
 use Rattle.script_lines.specs.Script.{answered}
 use Rattle.script_lines.proofs.AnswerLaws.{written-front, written-holds, answer-fits}
-use Rattle.script_lines.proofs.ScriptLaws.{count-told, reply-holds, answer-text}
+use Rattle.script_lines.proofs.ScriptLaws.{reply-holds, answer-text}
 use borrow.Author.Needs.{needs}
 use Rattle.script_lines.proofs.script.serve.Statement.{statement}
 use Rattle.script_lines.proofs.script.serve.Tie as tie
