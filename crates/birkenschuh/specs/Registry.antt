@@ -7,7 +7,7 @@ use Rattle.epmd_rules.specs.State.{Made}
 use Rattle.epmd_rules.specs.declared.answer.Numbers.{Numbers}
 use Rattle.epmd_rules.specs.Answers.{numbersOf, makingNumber}
 use Rattle.epmd_rules.specs.Serve.{Outcome}
-use Rattle.epmd_state.specs.Lent.{registryOf, ifMade}
+use Rattle.epmd_state.specs.Bytes.{registryOf, ifMade}
 
 -- making tells r, and leaves a registry in the host's bytes; where it refuses, they hold what they held before
 pub record Makes (m : Made) (r : ℕ) (before after : List ℕ) : Type 0 where

@@ -3,7 +3,7 @@ ghost use mathlib.Core.Path.{_≡_};
 ghost use lib.ListN.{length};
 ghost use Rattle.epmd_rules.specs.Registry.{newOf, closeOf, entryAt};
 ghost use Rattle.epmd_rules.specs.Serve.{requestOf};
-ghost use Rattle.epmd_state.specs.Lent.{registryOf, Closes};
+ghost use Rattle.epmd_state.specs.Bytes.{registryOf, Closes};
 ghost use Rattle.birkenschuh.specs.Registry.{Makes, Serves};
 use epmd_rules::answer::Numbers;
 use epmd_rules::registration::Registration;

@@ -1,7 +1,7 @@
 // What a host compares with its header before it makes a state: a library of another version would
 // write past the end of it.
 ghost use mathlib.Core.Path.{_≡_};
-ghost use Rattle.epmd_state.specs.Lent.{size};
+ghost use Rattle.epmd_state.specs.Bytes.{size};
 ghost use Rattle.handshake_state.specs.Bytes.{stateSize};
 ghost use Rattle.birkenschuh.specs.Version.{abi};
 

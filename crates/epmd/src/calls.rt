@@ -11,7 +11,7 @@ ghost use mathlib.Core.Path.{_≡_};
 ghost use lib.ListN.{length};
 ghost use Rattle.epmd_rules.specs.Registry.{newOf, closeOf, entryAt};
 ghost use Rattle.epmd_rules.specs.Serve.{requestOf};
-ghost use Rattle.epmd_state.specs.Lent.{registryOf, Does, Makes, Closes};
+ghost use Rattle.epmd_state.specs.Bytes.{registryOf, Does, Makes, Closes};
 
 // Makes a registry; a refusal leaves the bytes as they were.
 pub fn make(state: &mut [u8; SIZE], port: u16, first: u32) -> Making

@@ -25,7 +25,7 @@ ghost use lib.Dec.{eqb};
 ghost use Rattle.epmd_rules.specs.Requests.{room};
 ghost use Rattle.epmd_rules.specs.Registry.{lowestFree, stepped, filled, closeOf};
 ghost use Rattle.epmd_rules.specs.Serve.{Alive2Body, resultOf, alive2Of, requestOf};
-ghost use Rattle.epmd_state.specs.Lent.{places, size, registryOf, Does, Closes};
+ghost use Rattle.epmd_state.specs.Bytes.{places, size, registryOf, Does, Closes};
 
 // The creation after this one: 0 is never given.
 fn step(creation: u32) -> u32

@@ -1,4 +1,4 @@
--- What a registry holds, and what a call tells beside it. In the code a registry is bytes; specs/Lent of epmd_state says which.
+-- What a registry holds, and what a call tells beside it. In the code a registry is bytes; specs/Bytes of epmd_state says which.
 use Prim.Native.Nat.{ℕ}
 use mathlib.Core.Bool.{Bool}
 use mathlib.Core.List.{List}

@@ -13,9 +13,9 @@ use Rattle.wire.proofs.NumberLaws.{octets-part}
 use Rattle.wire.proofs.LayoutLaws.{layout-back, layout-only, layout-whole}
 use Rattle.wire.proofs.TableLaws.{Kept, table-back, table-long, table-only}
 use Rattle.epmd_rules.specs.declared.registration.Registration.{Registration}
-use Rattle.epmd_state.specs.Lent.{headL, entryL, entryValues, entryBytes, headSize, entrySize, places, entryBy, registryOf, stateBytes}
+use Rattle.epmd_state.specs.Bytes.{headL, entryL, entryValues, entryBytes, headSize, entrySize, places, entryBy, registryOf, stateBytes}
 use Rattle.epmd_state.specs.Claims.{StateBack, StateOnly, Promises}
-use Rattle.epmd_state.proofs.LentLaws.{headFrom, entry-back, entry-long}
+use Rattle.epmd_state.proofs.BytesLaws.{headFrom, entry-back, entry-long}
 
 -- ---- what is written is read back
 

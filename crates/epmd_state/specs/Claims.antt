@@ -9,7 +9,7 @@ use Rattle.wire.specs.Table.{Each}
 use Rattle.wire.specs.Claims.{Octets}
 use Rattle.epmd_rules.specs.State.{Registry}
 use Rattle.epmd_rules.specs.declared.registration.Registration.{Registration}
-use Rattle.epmd_state.specs.Lent.{headL, entryL, entryValues, places, size, registryOf, stateBytes}
+use Rattle.epmd_state.specs.Bytes.{headL, entryL, entryValues, places, size, registryOf, stateBytes}
 
 -- a registry whose fields fit their widths, with 64 places
 pub record Storable (r : Registry) : Type 0 where

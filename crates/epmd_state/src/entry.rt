@@ -24,7 +24,7 @@ ghost use lib.ListN.{length};
 ghost use Rattle.names.specs.Held.{nameBytes};
 ghost use Rattle.epmd_rules.specs.Registration.{isFree, heldExtra, extraBytes};
 ghost use Rattle.epmd_rules.specs.Registry.{entryAt};
-ghost use Rattle.epmd_state.specs.Lent.{places, entrySize, size, kindIn, protocolIn, portIn, highestIn, lowestIn, connectionIn, creationIn, entryBy, registryOf, isLike};
+ghost use Rattle.epmd_state.specs.Bytes.{places, entrySize, size, kindIn, protocolIn, portIn, highestIn, lowestIn, connectionIn, creationIn, entryBy, registryOf, isLike};
 
 pub fn record_of(state: &[u8], at: usize) -> &[u8]
     requires { ⌜ (at < places) × (length (now state) ≡ size) ⌝ }

@@ -10,7 +10,7 @@ ghost use lib.ListN.{length, drop};
 ghost use Rattle.wire.specs.Lookup.{firstAt};
 ghost use Rattle.epmd_rules.specs.Registration.{hasName, hasConnection};
 ghost use Rattle.epmd_rules.specs.Registry.{byName, byConnection, lowestFree};
-ghost use Rattle.epmd_state.specs.Lent.{places, entrySize, size, entryBy, registryOf, lastOf, isLike};
+ghost use Rattle.epmd_state.specs.Bytes.{places, entrySize, size, entryBy, registryOf, lastOf, isLike};
 
 // From a place on, the first whose name has n bytes and this last one.
 fn find_like(state: &[u8], from: usize, n: usize, last: u8) -> usize

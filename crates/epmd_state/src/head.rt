@@ -3,7 +3,7 @@ use crate::layout::NEXT;
 use crate::layout::PORT;
 ghost use mathlib.Core.Path.{_≡_};
 ghost use lib.ListN.{length};
-ghost use Rattle.epmd_state.specs.Lent.{size, registryOf, headed};
+ghost use Rattle.epmd_state.specs.Bytes.{size, registryOf, headed};
 
 pub fn port(state: &[u8]) -> u16
     requires { ⌜ length (now state) ≡ size ⌝ }

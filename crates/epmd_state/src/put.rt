@@ -20,7 +20,7 @@ ghost use Rattle.wire.specs.Number.{be};
 ghost use Rattle.wire.specs.Output.{overwrite};
 ghost use Rattle.wire.specs.Layout.{encode, int, Fits};
 ghost use Rattle.epmd_rules.specs.Registration.{free};
-ghost use Rattle.epmd_state.specs.Lent.{tailL, places, tailAt, entrySize, size, registryOf, placed};
+ghost use Rattle.epmd_state.specs.Bytes.{tailL, places, tailAt, entrySize, size, registryOf, placed};
 
 fn put_name(state: &mut [u8], at: usize, name: Name)
     requires { ⌜ at + 256 ≤ length (now state) ⌝ }

@@ -1,4 +1,4 @@
--- What an endpoint (01's gate) holds, and what a call tells beside it. In the code an endpoint is bytes; specs/Lent says which.
+-- What an endpoint (01's gate) holds, and what a call tells beside it. In the code an endpoint is bytes; specs/Bytes says which.
 use Prim.Native.Nat.{ℕ}
 use mathlib.Core.List.{List}
 use Rattle.names.specs.declared.held.Name.{Name}

@@ -14,7 +14,7 @@ use Rattle.epmd_rules.specs.declared.answer.Answer.{Answer}
 use Rattle.epmd_rules.specs.State.{Registry}
 use Rattle.epmd_rules.specs.Registry.{newOf}
 use Rattle.epmd_rules.specs.Answers.{numbersOf}
-use Rattle.epmd_state.specs.Lent.{ifMade}
+use Rattle.epmd_state.specs.Bytes.{ifMade}
 use Rattle.epmd_rules.specs.Serve as mapper
 use Rattle.script_lines.specs.declared.line.Item.{Item}
 use Rattle.script_lines.specs.declared.line.Item.the-variants.{Op, Conn, Hex, Malformed}

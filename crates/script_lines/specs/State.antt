@@ -1,8 +1,8 @@
--- The state of a run between lines. In the code the registry is bytes, which epmd_state's specs/Lent reads.
+-- The state of a run between lines. In the code the registry is bytes, which epmd_state's specs/Bytes reads.
 use mathlib.Core.List.{List}
 use Prim.Native.Nat.{ℕ}
 use Rattle.epmd_rules.specs.State.{Registry}
-use Rattle.epmd_state.specs.Lent.{registryOf}
+use Rattle.epmd_state.specs.Bytes.{registryOf}
 use Rattle.script_lines.specs.declared.script.Awaits.{Awaits}
 
 pub record Script : Type 0 where

@@ -15,7 +15,7 @@ ghost use lib.ListN.{length, take, drop};
 ghost use Rattle.wire.specs.Output.{overwrite, written};
 ghost use Rattle.epmd_rules.specs.Requests.{room};
 ghost use Rattle.epmd_rules.specs.Serve.{requestOf};
-ghost use Rattle.epmd_state.specs.Lent.{registryOf};
+ghost use Rattle.epmd_state.specs.Bytes.{registryOf};
 ghost use Rattle.script_lines.specs.State.{scriptIn};
 ghost use Rattle.script_lines.specs.Text.{isHex, unhex};
 ghost use Rattle.script_lines.specs.Answer.{answerRoom};

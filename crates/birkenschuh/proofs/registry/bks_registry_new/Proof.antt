@@ -2,7 +2,7 @@ use mathlib.Core.Path.{_∙_, ap}
 use Rattle.epmd_rules.specs.declared.answer.Making.{Making}
 use Rattle.epmd_rules.specs.Answers.{makingNumber}
 use Rattle.epmd_rules.specs.Registry.{newOf}
-use Rattle.epmd_state.specs.Lent.{registryOf, ifMade}
+use Rattle.epmd_state.specs.Bytes.{registryOf, ifMade}
 use borrow.Author.Needs.{needs}
 use Rattle.birkenschuh.proofs.registry.bks_registry_new.Statement.{statement}
 use Rattle.birkenschuh.proofs.registry.bks_registry_new.Tie as tie

@@ -3,7 +3,7 @@ use mathlib.Core.List.{List}
 use borrow.Author.Tests.{eq-eqb, ne-eqb}
 use Rattle.epmd_rules.specs.declared.registration.Registration.{Registration}
 use Rattle.epmd_rules.specs.Registry.{newOf, fresh}
-use Rattle.epmd_state.proofs.LentLaws.{none-there}
+use Rattle.epmd_state.proofs.BytesLaws.{none-there}
 use borrow.Author.Needs.{needs}
 use Rattle.epmd.proofs.calls.make.Statement.{statement}
 use Rattle.epmd.proofs.calls.make.Tie as tie

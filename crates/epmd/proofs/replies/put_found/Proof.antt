@@ -4,7 +4,7 @@ use mathlib.Core.List.{List}
 use lib.ListN.{length}
 use Rattle.wire.specs.Output.{written}
 use Rattle.epmd_rules.specs.Replies.{port2With, port2Found}
-use Rattle.epmd_state.specs.Lent.{entryBy}
+use Rattle.epmd_state.specs.Bytes.{entryBy}
 use borrow.Author.Needs.{needs}
 use Rattle.epmd.proofs.replies.put_found.Statement.{statement}
 use Rattle.epmd.proofs.replies.put_found.Tie as tie

@@ -10,8 +10,8 @@ use Rattle.epmd_rules.specs.Registry.{entryAt}
 use Rattle.epmd_rules.specs.Requests.{lineRoom}
 use Rattle.epmd_rules.specs.Replies.{lineOf}
 use Rattle.epmd_rules.proofs.ReplyLaws.{Sofar, none-sofar, next-sofar, all-sofar}
-use Rattle.epmd_state.specs.Lent.{places, registryOf}
-use Rattle.epmd_state.proofs.LentLaws.{here-long}
+use Rattle.epmd_state.specs.Bytes.{places, registryOf}
+use Rattle.epmd_state.proofs.BytesLaws.{here-long}
 use borrow.Author.Needs.{needs}
 use Rattle.epmd.proofs.replies.put_names.Statement.{statement}
 use Rattle.epmd.proofs.replies.put_names.Tie as tie

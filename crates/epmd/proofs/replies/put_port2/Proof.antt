@@ -7,7 +7,7 @@ use Rattle.wire.specs.Output.{written}
 use Rattle.epmd_rules.specs.declared.registration.Registration.{Registration}
 use Rattle.epmd_rules.specs.Registry.{byName, entryAt}
 use Rattle.epmd_rules.specs.Replies.{port2Found, port2Reply}
-use Rattle.epmd_state.specs.Lent.{places, registryOf}
+use Rattle.epmd_state.specs.Bytes.{places, registryOf}
 use borrow.Author.Needs.{needs}
 use Rattle.epmd.proofs.replies.put_port2.Statement.{statement}
 use Rattle.epmd.proofs.replies.put_port2.Tie as tie

@@ -13,7 +13,7 @@ use Rattle.epmd_rules.specs.Registry.{lowestFree, filled}
 use Rattle.epmd_rules.specs.Replies.{alive2Reply}
 use Rattle.epmd_rules.specs.Serve.{resultOf, registrationOf}
 use Rattle.epmd_rules.proofs.ServeLaws.{alive2-fails, alive2-fills, no-place, a-place}
-use Rattle.epmd_state.specs.Lent.{places, registryOf}
+use Rattle.epmd_state.specs.Bytes.{places, registryOf}
 use borrow.Author.Needs.{needs}
 use Rattle.epmd.proofs.serve.alive2.Statement.{statement}
 use Rattle.epmd.proofs.serve.alive2.Tie as tie

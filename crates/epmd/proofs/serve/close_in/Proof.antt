@@ -4,7 +4,7 @@ use native.Mathlib.Omega.{arith}
 use borrow.Author.Tests.{le-ltb, lt-ltb}
 use Rattle.epmd_rules.specs.Registration.{free}
 use Rattle.epmd_rules.specs.Registry.{closeOf, byConnection}
-use Rattle.epmd_state.specs.Lent.{places, registryOf, placed}
+use Rattle.epmd_state.specs.Bytes.{places, registryOf, placed}
 use borrow.Author.Needs.{needs}
 use Rattle.epmd.proofs.serve.close_in.Statement.{statement}
 use Rattle.epmd.proofs.serve.close_in.Tie as tie

@@ -3,7 +3,7 @@ use Prim.Native.Nat.{ℕ}
 use lib.ListN.{set}
 use Rattle.epmd_rules.specs.State.{Registry}
 use Rattle.epmd_rules.specs.Registry.{stepped, filled}
-use Rattle.epmd_state.specs.Lent.{registryOf, headed}
+use Rattle.epmd_state.specs.Bytes.{registryOf, headed}
 use borrow.Author.Needs.{needs}
 use Rattle.epmd.proofs.serve.fill.Statement.{statement}
 use Rattle.epmd.proofs.serve.fill.Tie as tie

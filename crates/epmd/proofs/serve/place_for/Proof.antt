@@ -4,7 +4,7 @@ use native.Mathlib.Omega.{arith}
 use borrow.Author.Tests.{lt-ltb, le-ltb}
 use Rattle.epmd_rules.specs.Registry.{byName, byConnection, lowestFree}
 use Rattle.epmd_rules.specs.Serve.{resultOf}
-use Rattle.epmd_state.specs.Lent.{places, registryOf}
+use Rattle.epmd_state.specs.Bytes.{places, registryOf}
 use borrow.Author.Needs.{needs}
 use Rattle.epmd.proofs.serve.place_for.Statement.{statement}
 use Rattle.epmd.proofs.serve.place_for.Tie as tie

@@ -13,7 +13,7 @@ use Rattle.epmd_rules.specs.Replies.{port2Reply}
 use Rattle.epmd_rules.specs.Serve.{alive2Of, port2Of, namesOf}
 use Rattle.epmd_rules.proofs.RequestLaws.{request-passed, request-body, alive2-body}
 use Rattle.epmd_rules.proofs.ServeLaws.{call-asked}
-use Rattle.epmd_state.specs.Lent.{registryOf}
+use Rattle.epmd_state.specs.Bytes.{registryOf}
 use borrow.Author.Needs.{needs}
 use Rattle.epmd.proofs.serve.request_in.Statement.{statement}
 use Rattle.epmd.proofs.serve.request_in.Tie as tie

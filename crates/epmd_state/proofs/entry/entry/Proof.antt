@@ -1,5 +1,5 @@
 use mathlib.Core.Path.{sym, _∙_}
-use Rattle.epmd_state.proofs.LentLaws.{none-here, past-here}
+use Rattle.epmd_state.proofs.BytesLaws.{none-here, past-here}
 use borrow.Author.Needs.{needs}
 use Rattle.epmd_state.proofs.entry.entry.Statement.{statement}
 use Rattle.epmd_state.proofs.entry.entry.Tie as tie

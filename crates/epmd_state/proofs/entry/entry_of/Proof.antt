@@ -5,7 +5,7 @@ use lib.ListN.{length}
 use Rattle.wire.proofs.RunLaws.{part-length}
 use Rattle.names.specs.Held.{heldOf}
 use Rattle.epmd_rules.specs.Registration.{heldExtra}
-use Rattle.epmd_state.specs.Lent.{entryBy}
+use Rattle.epmd_state.specs.Bytes.{entryBy}
 use borrow.Author.Needs.{needs}
 use Rattle.epmd_state.proofs.entry.entry_of.Statement.{statement}
 use Rattle.epmd_state.proofs.entry.entry_of.Tie as tie

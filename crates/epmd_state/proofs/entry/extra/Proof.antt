@@ -3,7 +3,7 @@ use Prim.Native.Nat.{_≤_}
 use native.Mathlib.Omega.{arith}
 use lib.ListN.{length}
 use Rattle.wire.proofs.RunLaws.{part-length}
-use Rattle.epmd_state.proofs.LentLaws.{extra-here, extra-whole}
+use Rattle.epmd_state.proofs.BytesLaws.{extra-here, extra-whole}
 use borrow.Author.Needs.{needs}
 use Rattle.epmd_state.proofs.entry.extra.Statement.{statement}
 use Rattle.epmd_state.proofs.entry.extra.Tie as tie

@@ -4,7 +4,7 @@ use lib.ListN.{length}
 use lib.Dec.{eqb}
 use Rattle.wire.proofs.RunLaws.{part-length}
 use Rattle.epmd_rules.specs.Registration.{isFree}
-use Rattle.epmd_state.proofs.LentLaws.{name-here}
+use Rattle.epmd_state.proofs.BytesLaws.{name-here}
 use borrow.Author.Needs.{needs}
 use Rattle.epmd_state.proofs.entry.is_free.Statement.{statement}
 use Rattle.epmd_state.proofs.entry.is_free.Tie as tie

@@ -7,8 +7,8 @@ use lib.Dec.{eqb}
 use Rattle.wire.specs.Number.{beAt}
 use Rattle.wire.proofs.RunLaws.{part-length}
 use Rattle.names.specs.Held.{nameBytes}
-use Rattle.epmd_state.specs.Lent.{entryBy}
-use Rattle.epmd_state.proofs.LentLaws.{name-here, last-here}
+use Rattle.epmd_state.specs.Bytes.{entryBy}
+use Rattle.epmd_state.proofs.BytesLaws.{name-here, last-here}
 use borrow.Author.Needs.{needs}
 use Rattle.epmd_state.proofs.entry.is_like.Statement.{statement}
 use Rattle.epmd_state.proofs.entry.is_like.Tie as tie

@@ -3,7 +3,7 @@ use Prim.Native.Nat.{_≤_}
 use native.Mathlib.Omega.{arith}
 use lib.ListN.{length}
 use Rattle.wire.proofs.RunLaws.{part-length}
-use Rattle.epmd_state.proofs.LentLaws.{name-here}
+use Rattle.epmd_state.proofs.BytesLaws.{name-here}
 use borrow.Author.Needs.{needs}
 use Rattle.epmd_state.proofs.entry.name.Statement.{statement}
 use Rattle.epmd_state.proofs.entry.name.Tie as tie

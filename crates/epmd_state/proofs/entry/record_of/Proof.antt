@@ -2,8 +2,8 @@ use mathlib.Core.Path.{_∙_, ap}
 use Prim.Native.Nat.{_+_, _*_}
 use lib.ListN.{length}
 use Rattle.wire.proofs.RunLaws.{part-length}
-use Rattle.epmd_state.specs.Lent.{headSize, entrySize, entryBy}
-use Rattle.epmd_state.proofs.LentLaws.{entry-here}
+use Rattle.epmd_state.specs.Bytes.{headSize, entrySize, entryBy}
+use Rattle.epmd_state.proofs.BytesLaws.{entry-here}
 use borrow.Author.Needs.{needs}
 use Rattle.epmd_state.proofs.entry.record_of.Statement.{statement}
 use Rattle.epmd_state.proofs.entry.record_of.Tie as tie

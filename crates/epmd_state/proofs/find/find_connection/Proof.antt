@@ -4,8 +4,8 @@ use native.Mathlib.Omega.{arith}
 use borrow.Author.Needs.{needs}
 use Rattle.epmd_rules.specs.Registration.{hasConnection}
 use Rattle.epmd_rules.specs.Registry.{byConnection}
-use Rattle.epmd_state.specs.Lent.{places, registryOf}
-use Rattle.epmd_state.proofs.LentLaws.{Sought, seek-all, hit, skip, missed}
+use Rattle.epmd_state.specs.Bytes.{places, registryOf}
+use Rattle.epmd_state.proofs.BytesLaws.{Sought, seek-all, hit, skip, missed}
 use Rattle.epmd_state.proofs.find.find_connection.Statement.{statement}
 use Rattle.epmd_state.proofs.find.find_connection.Tie as tie
 

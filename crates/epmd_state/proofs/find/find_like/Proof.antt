@@ -4,8 +4,8 @@ use native.Mathlib.Omega.{arith}
 use lib.ListN.{drop}
 use borrow.Author.Needs.{needs}
 use Rattle.wire.specs.Lookup.{firstAt}
-use Rattle.epmd_state.specs.Lent.{places, registryOf, isLike}
-use Rattle.epmd_state.proofs.LentLaws.{Sought, seek, hit, skip, missed}
+use Rattle.epmd_state.specs.Bytes.{places, registryOf, isLike}
+use Rattle.epmd_state.proofs.BytesLaws.{Sought, seek, hit, skip, missed}
 use Rattle.epmd_state.proofs.find.find_like.Statement.{statement}
 use Rattle.epmd_state.proofs.find.find_like.Tie as tie
 

@@ -4,8 +4,8 @@ use native.Mathlib.Omega.{arith}
 use borrow.Author.Needs.{needs}
 use Rattle.epmd_rules.specs.Registration.{hasName}
 use Rattle.epmd_rules.specs.Registry.{byName}
-use Rattle.epmd_state.specs.Lent.{places, registryOf}
-use Rattle.epmd_state.proofs.LentLaws.{Sought, seek-all, hit, skip, missed, leap}
+use Rattle.epmd_state.specs.Bytes.{places, registryOf}
+use Rattle.epmd_state.proofs.BytesLaws.{Sought, seek-all, hit, skip, missed, leap}
 use Rattle.epmd_state.proofs.find.find_name.Statement.{statement}
 use Rattle.epmd_state.proofs.find.find_name.Tie as tie
 

@@ -2,7 +2,7 @@ use mathlib.Core.Path.{sym, _∙_, ap}
 use Prim.Native.Nat.{ℕ}
 use lib.Dec.{eqb}
 use Rattle.epmd_rules.specs.Registration.{hasConnection}
-use Rattle.epmd_state.specs.Lent.{entryBy}
+use Rattle.epmd_state.specs.Bytes.{entryBy}
 use borrow.Author.Needs.{needs}
 use Rattle.epmd_state.proofs.find.has_connection.Statement.{statement}
 use Rattle.epmd_state.proofs.find.has_connection.Tie as tie

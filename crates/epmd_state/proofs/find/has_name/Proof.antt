@@ -4,8 +4,8 @@ use mathlib.Core.List.{List}
 use lib.ListN.{length}
 use Rattle.wire.specs.Run.{sameBytes}
 use Rattle.names.specs.Held.{nameBytes}
-use Rattle.epmd_state.specs.Lent.{entryBy}
-use Rattle.epmd_state.proofs.LentLaws.{none-held, by-bytes}
+use Rattle.epmd_state.specs.Bytes.{entryBy}
+use Rattle.epmd_state.proofs.BytesLaws.{none-held, by-bytes}
 use borrow.Author.Needs.{needs}
 use Rattle.epmd_state.proofs.find.has_name.Statement.{statement}
 use Rattle.epmd_state.proofs.find.has_name.Tie as tie

@@ -1,6 +1,6 @@
 use mathlib.Core.Path.{sym}
 use Prim.Native.Nat.{_-_}
-use Rattle.epmd_state.proofs.LentLaws.{empty-last}
+use Rattle.epmd_state.proofs.BytesLaws.{empty-last}
 use borrow.Author.Needs.{needs}
 use Rattle.epmd_state.proofs.find.last_of.Statement.{statement}
 use Rattle.epmd_state.proofs.find.last_of.Tie as tie

@@ -1,4 +1,4 @@
-use Rattle.epmd_state.specs.Lent.{registryOf}
+use Rattle.epmd_state.specs.Bytes.{registryOf}
 use borrow.Author.Needs.{needs}
 use Rattle.epmd_state.proofs.head.next.Statement.{statement}
 use Rattle.epmd_state.proofs.head.next.Tie as tie

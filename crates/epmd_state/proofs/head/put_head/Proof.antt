@@ -5,8 +5,8 @@ use native.Mathlib.Omega.{arith}
 use Rattle.wire.specs.Number.{be}
 use Rattle.wire.specs.Output.{overwrite}
 use Rattle.wire.proofs.OutputLaws.{overwrite-join}
-use Rattle.epmd_state.specs.Lent.{registryOf}
-use Rattle.epmd_state.proofs.LentLaws.{head-here}
+use Rattle.epmd_state.specs.Bytes.{registryOf}
+use Rattle.epmd_state.proofs.BytesLaws.{head-here}
 use borrow.Author.Needs.{needs}
 use Rattle.epmd_state.proofs.head.put_head.Statement.{statement}
 use Rattle.epmd_state.proofs.head.put_head.Tie as tie

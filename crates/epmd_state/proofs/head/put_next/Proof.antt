@@ -1,6 +1,6 @@
 use mathlib.Core.Path.{_∙_, ap}
-use Rattle.epmd_state.specs.Lent.{registryOf}
-use Rattle.epmd_state.proofs.LentLaws.{next-here}
+use Rattle.epmd_state.specs.Bytes.{registryOf}
+use Rattle.epmd_state.proofs.BytesLaws.{next-here}
 use borrow.Author.Needs.{needs}
 use Rattle.epmd_state.proofs.head.put_next.Statement.{statement}
 use Rattle.epmd_state.proofs.head.put_next.Tie as tie

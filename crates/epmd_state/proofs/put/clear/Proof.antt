@@ -1,6 +1,6 @@
 use mathlib.Core.Path.{_∙_, ap}
-use Rattle.epmd_state.specs.Lent.{registryOf}
-use Rattle.epmd_state.proofs.LentLaws.{clear-here}
+use Rattle.epmd_state.specs.Bytes.{registryOf}
+use Rattle.epmd_state.proofs.BytesLaws.{clear-here}
 use borrow.Author.Needs.{needs}
 use Rattle.epmd_state.proofs.put.clear.Statement.{statement}
 use Rattle.epmd_state.proofs.put.clear.Tie as tie

@@ -6,8 +6,8 @@ use lib.ListN.{length}
 use Rattle.wire.specs.Number.{be}
 use Rattle.wire.specs.Output.{overwrite}
 use Rattle.wire.specs.Layout.{encode, Fits}
-use Rattle.epmd_state.specs.Lent.{headSize, entrySize, tailAt, tailL, entryL, tailValues, entryValues, registryOf}
-use Rattle.epmd_state.proofs.LentLaws.{Put, then, put-here, entry-split}
+use Rattle.epmd_state.specs.Bytes.{headSize, entrySize, tailAt, tailL, entryL, tailValues, entryValues, registryOf}
+use Rattle.epmd_state.proofs.BytesLaws.{Put, then, put-here, entry-split}
 use borrow.Author.Needs.{needs}
 use Rattle.epmd_state.proofs.put.put.Statement.{statement}
 use Rattle.epmd_state.proofs.put.put.Tie as tie

@@ -2,8 +2,8 @@ use Prim.Native.Nat.{_+_, _≤_}
 use native.Mathlib.Omega.{arith}
 use lib.ListN.{length}
 use Rattle.wire.specs.Number.{be}
-use Rattle.epmd_state.specs.Lent.{tailAt}
-use Rattle.epmd_state.proofs.LentLaws.{Put, then}
+use Rattle.epmd_state.specs.Bytes.{tailAt}
+use Rattle.epmd_state.proofs.BytesLaws.{Put, then}
 use borrow.Author.Needs.{needs}
 use Rattle.epmd_state.proofs.put.put_numbers.Statement.{statement}
 use Rattle.epmd_state.proofs.put.put_numbers.Tie as tie

@@ -11,7 +11,7 @@ use Rattle.epmd_rules.specs.Requests.{room}
 use Rattle.epmd_rules.specs.Serve.{requestOf}
 use Rattle.epmd_rules.specs.Serve as mapper
 use Rattle.epmd_rules.proofs.Calls.{refusal-keeps}
-use Rattle.epmd_state.specs.Lent.{registryOf}
+use Rattle.epmd_state.specs.Bytes.{registryOf}
 use Rattle.script_lines.specs.declared.script.Awaits.the-variants.{Operation}
 use Rattle.script_lines.specs.Text.{unhex}
 use Rattle.script_lines.specs.Answer.{answerText}

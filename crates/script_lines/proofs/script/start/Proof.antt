@@ -2,7 +2,7 @@ use mathlib.Core.Path.{_∙_, ap}
 use Rattle.epmd_rules.specs.State.{Registry}
 use Rattle.epmd_rules.specs.declared.answer.Making.{Making}
 use Rattle.epmd_rules.specs.Registry.{newOf}
-use Rattle.epmd_state.specs.Lent.{registryOf, ifMade}
+use Rattle.epmd_state.specs.Bytes.{registryOf, ifMade}
 use Rattle.script_lines.specs.declared.script.Awaits.the-variants.{Operation}
 use Rattle.script_lines.specs.Script.{started}
 use Rattle.script_lines.proofs.ScriptLaws.{mapper-made}

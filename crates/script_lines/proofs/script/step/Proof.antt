@@ -8,7 +8,7 @@ use Rattle.wire.proofs.RunLaws.{rest}
 use Rattle.wire.proofs.OutputLaws.{written-none}
 use Rattle.epmd_rules.specs.Requests.{room}
 use Rattle.epmd_rules.specs.Serve.{requestOf}
-use Rattle.epmd_state.specs.Lent.{registryOf}
+use Rattle.epmd_state.specs.Bytes.{registryOf}
 use Rattle.script_lines.specs.State.{scriptIn}
 use Rattle.script_lines.specs.Text.{unhex}
 use Rattle.script_lines.specs.Script.{answered}

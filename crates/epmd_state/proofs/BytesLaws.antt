@@ -25,7 +25,7 @@ use Rattle.epmd_rules.specs.State.{Registry}
 use Rattle.epmd_rules.specs.declared.registration.Registration.{Registration}
 use Rattle.epmd_rules.specs.Registration.{free, isFree, hasName, extraOf, extraBytes}
 use Rattle.epmd_rules.specs.Registry.{entryAt}
-use Rattle.epmd_state.specs.Lent.{headL, tailL, entryL, places, headSize, entrySize, size, tailValues, entryValues, entryBytes, entryFrom, entryBy, registryOf, placed, headed, lastOf, isLike}
+use Rattle.epmd_state.specs.Bytes.{headL, tailL, entryL, places, headSize, entrySize, size, tailValues, entryValues, entryBytes, entryFrom, entryBy, registryOf, placed, headed, lastOf, isLike}
 
 abbrev entries : List ℕ → List Registration
 entries b = table entryBy entrySize places headSize b
