@@ -5,7 +5,7 @@ use std::io::{self, Write};
 use std::net::{Shutdown, SocketAddr, TcpStream};
 use std::time::Instant;
 
-use birkenschuh::{Refusal, Registration};
+use birkenschuh::Refusal;
 
 use crate::input::{Budget, Input};
 use crate::sys::{self, ENDED, READABLE, WRITABLE};
@@ -24,11 +24,23 @@ pub struct Connection {
     unsent: Vec<u8>,
     /// Closed as soon as nothing is unsent.
     pub closes: bool,
-    pub node: Option<Registration>,
-    /// When it is closed, unless it has registered a node.
+    pub node: Option<Node>,
+    /// How many ALIVE2 requests got a Result above 0.
+    pub failures: u8,
+    /// When it is closed, unless it has registered a node. Runs from the opening, and nothing
+    /// prolongs it.
     pub deadline: Instant,
+    /// Its registration waits for a creation; nothing is read meanwhile.
+    pub held: bool,
     /// What it waits for in the poll, nothing if it is not there.
     pub waits_for: u32,
+}
+
+/// What a connection has registered.
+pub struct Node {
+    pub name: Vec<u8>,
+    pub port: u16,
+    pub creation: u32,
 }
 
 /// Why a connection was closed.
@@ -40,6 +52,12 @@ pub enum Why {
     Refused(Refusal),
     TimedOut,
     NoMemory,
+    /// All connections were taken, and another came.
+    MadeRoom,
+    /// Only callers on this machine may register.
+    NotLocal,
+    /// No creation is reserved on disk.
+    NoCreation,
 }
 
 impl Connection {
@@ -59,7 +77,9 @@ impl Connection {
             unsent: Vec::new(),
             closes: false,
             node: None,
+            failures: 0,
             deadline,
+            held: false,
             waits_for: 0,
         }
     }
@@ -105,10 +125,15 @@ impl Connection {
     /// end is the node's.
     pub fn interest(&self) -> u32 {
         match (self.all_sent(), &self.node) {
+            (true, _) if self.held => ENDED,
             (true, _) => READABLE,
             (false, None) => WRITABLE,
             (false, Some(_)) => WRITABLE | ENDED,
         }
+    }
+
+    pub fn has_node(&self, name: &[u8]) -> bool {
+        self.node.as_ref().is_some_and(|node| node.name == name)
     }
 
     /// Whether there is nothing left to read but the end.
@@ -123,6 +148,7 @@ impl Connection {
     pub fn state(&self) -> &'static str {
         match (self.all_sent(), self.input.is_empty()) {
             (false, _) => "reply not read",
+            (true, _) if self.held => "waits for a creation",
             (true, false) => "frame not complete",
             (true, true) => "no request",
         }

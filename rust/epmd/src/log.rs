@@ -1,9 +1,12 @@
 //! Log lines on standard output: for people (`registered name=a port=35219 ...`) or as JSON, from
 //! the same fields.
 
-use std::io::{self, Write};
+use std::io;
+use std::time::{Duration, Instant};
 
 use crate::clock;
+use crate::limiter::{LeftOut, Limiter};
+use crate::writer::Writer;
 
 #[derive(Clone, Copy)]
 pub enum Value<'a> {
@@ -14,26 +17,78 @@ pub enum Value<'a> {
 }
 
 pub struct Log {
-    pub json: bool,
-    pub quiet: bool,
+    json: bool,
+    quiet: bool,
+    limiter: Limiter,
+    writer: Writer,
 }
 
+/// How long the end of the program waits for the reader of its log.
+const FAREWELL: Duration = Duration::from_millis(500);
+
 impl Log {
-    /// Writes one line. A log that cannot be written is no reason to stop serving.
-    pub fn line(&self, event: &str, fields: &[(&str, Value)]) {
-        if !self.quiet {
-            self.line_even_if_quiet(event, fields);
+    pub fn new(json: bool, quiet: bool) -> io::Result<Log> {
+        let tell = move |lines| line(json, "dropped", &[("lines", Value::Number(lines))]);
+        Ok(Log {
+            json,
+            quiet,
+            limiter: Limiter::default(),
+            writer: Writer::to_stdout(tell)?,
+        })
+    }
+
+    /// Says one line, unless there were too many of its kind.
+    pub fn line(&mut self, event: &'static str, fields: &[(&str, Value)]) {
+        if self.admits(event) {
+            self.say(event, fields);
         }
     }
 
-    pub fn line_even_if_quiet(&self, event: &str, fields: &[(&str, Value)]) {
-        let line = if self.json {
-            json_line(&clock::stamp(), event, fields)
-        } else {
-            text_line(&clock::stamp(), event, fields)
-        };
-        let mut out = io::stdout().lock();
-        let _ = out.write_all(line.as_bytes()).and_then(|()| out.flush());
+    /// Whether a line about `event` is to be said; if not, it is counted. For those who would not
+    /// gather the fields of a line for nothing.
+    pub fn admits(&mut self, event: &'static str) -> bool {
+        !self.quiet && self.limiter.admits(event, Instant::now())
+    }
+
+    /// Says a line that is admitted, or that counts even if the log is quiet. A log that cannot be
+    /// written is no reason to stop serving.
+    pub fn say(&self, event: &str, fields: &[(&str, Value)]) {
+        self.writer.push(&line(self.json, event, fields));
+    }
+
+    /// When `tell_left_out` has something to tell.
+    pub fn due(&self) -> Option<Instant> {
+        self.limiter.due()
+    }
+
+    /// How many lines of each kind were left out.
+    pub fn tell_left_out(&mut self, now: Instant) {
+        for it in self.limiter.take_due(now) {
+            self.say_left_out(&it);
+        }
+    }
+
+    /// Tells what is untold and waits a moment for the reader.
+    pub fn end(&mut self) {
+        for it in self.limiter.take_all(Instant::now()) {
+            self.say_left_out(&it);
+        }
+        self.writer.flush(FAREWELL);
+    }
+
+    fn say_left_out(&self, it: &LeftOut) {
+        let fields = [
+            ("kind", Value::Text(it.event)),
+            ("lines", Value::Number(it.lines)),
+        ];
+        self.say("left-out", &fields);
+    }
+}
+
+fn line(json: bool, event: &str, fields: &[(&str, Value)]) -> String {
+    match json {
+        true => json_line(&clock::stamp(), event, fields),
+        false => text_line(&clock::stamp(), event, fields),
     }
 }
 
