@@ -6,6 +6,8 @@
 
 mod client;
 mod process;
+mod system;
 
 pub use client::*;
 pub use process::*;
+pub use system::*;

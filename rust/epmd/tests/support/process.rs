@@ -2,14 +2,16 @@
 
 use std::fs;
 use std::io::{BufRead, BufReader, Read, Write};
-use std::net::{Ipv4Addr, TcpListener, TcpStream};
+use std::net::{Ipv4Addr, SocketAddr, TcpListener, TcpStream};
+use std::path::PathBuf;
 use std::process::{Child, Command, ExitStatus, Output, Stdio};
+use std::sync::atomic::{AtomicU32, Ordering};
 use std::sync::{Arc, Mutex};
 use std::thread;
 
 use super::client::eventually;
 
-const BIRKEN_EPMD: &str = env!("CARGO_BIN_EXE_birken-epmd");
+pub const BIRKEN_EPMD: &str = env!("CARGO_BIN_EXE_birken-epmd");
 
 /// A running program whose lines, of both its outputs, are gathered.
 pub struct Process {
@@ -115,10 +117,39 @@ impl Drop for Process {
     }
 }
 
-/// A running `birken-epmd` on a port that it picked, or on the one given.
+/// A folder of the test's own, which is gone at its end.
+pub struct Folder(PathBuf);
+
+impl Folder {
+    pub fn new() -> Folder {
+        static COUNT: AtomicU32 = AtomicU32::new(0);
+        let number = COUNT.fetch_add(1, Ordering::Relaxed);
+        let name = format!("birken-epmd-test-{}-{number}", std::process::id());
+        let path = std::env::temp_dir().join(name);
+        fs::create_dir(&path).expect("a folder");
+        Folder(path)
+    }
+
+    pub fn path(&self) -> &str {
+        self.0.to_str().expect("UTF-8")
+    }
+
+    pub fn file(&self, name: &str) -> PathBuf {
+        self.0.join(name)
+    }
+}
+
+impl Drop for Folder {
+    fn drop(&mut self) {
+        let _ = fs::remove_dir_all(&self.0);
+    }
+}
+
+/// A running `birken-epmd` on a port that it picked, or on the one given, with a state of its own.
 pub struct Mapper {
     pub process: Process,
     pub port: u16,
+    pub state: Arc<Folder>,
 }
 
 impl Mapper {
@@ -127,29 +158,52 @@ impl Mapper {
     }
 
     pub fn at(port: u16, words: &[&str]) -> Mapper {
+        Mapper::with_state(Arc::new(Folder::new()), port, words)
+    }
+
+    /// With the state of a mapper that has ended.
+    pub fn with_state(state: Arc<Folder>, port: u16, words: &[&str]) -> Mapper {
+        let mut command = birken_epmd();
         let port = format!("--port={port}");
-        Mapper::of(Command::new(BIRKEN_EPMD).arg(port).args(words))
+        command.args([&port, "--state-dir", state.path()]);
+        Mapper::of(command.args(words), state)
     }
 
-    /// With at most so many open files.
-    pub fn with_files(files: u32) -> Mapper {
-        let line = format!("ulimit -n {files} && exec \"$0\" --port 0");
-        Mapper::of(Command::new("sh").args(["-c", &line, BIRKEN_EPMD]))
-    }
-
-    fn of(command: &mut Command) -> Mapper {
+    /// Once it listens.
+    pub fn of(command: &mut Command, state: Arc<Folder>) -> Mapper {
         let process = Process::start(command);
         let line = process.line_with("listening");
-        let address = line.split("127.0.0.1:").nth(1).expect("an address");
-        let digits: String = address.chars().take_while(char::is_ascii_digit).collect();
-        let port = digits.parse().expect("a port");
-        Mapper { process, port }
+        let port = port_in(&line);
+        Mapper {
+            process,
+            port,
+            state,
+        }
     }
+}
+
+/// The port at the end of the address in a line about listening.
+pub fn port_in(line: &str) -> u16 {
+    let mut addresses = line.split(['=', '"', ' ']).filter(|it| it.contains(':'));
+    let address = addresses.find_map(|it| it.parse::<SocketAddr>().ok());
+    address.expect("an address").port()
+}
+
+/// The program, without what the environment of the tests might tell it.
+pub fn birken_epmd() -> Command {
+    let mut command = Command::new(BIRKEN_EPMD);
+    for name in ["ERL_EPMD_PORT", "ERL_EPMD_ADDRESS", "STATE_DIRECTORY"] {
+        command.env_remove(name);
+    }
+    command
 }
 
 /// Runs `birken-epmd` to its end.
 pub fn run(words: &[&str]) -> Output {
-    let mut command = Command::new(BIRKEN_EPMD);
+    let state = Folder::new();
+    let mut command = birken_epmd();
+    // Where the default leads, should these words not name a folder.
+    command.env("XDG_STATE_HOME", state.path());
     command.args(words).stdin(Stdio::null());
     command.output().expect("birken-epmd")
 }

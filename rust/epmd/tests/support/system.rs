@@ -1,0 +1,37 @@
+//! What the tests need of the operating system and the standard library lacks.
+
+use std::os::raw::c_int;
+
+const RLIMIT_NOFILE: c_int = 7;
+
+#[repr(C)]
+struct Limit {
+    soft: u64,
+    hard: u64,
+}
+
+extern "C" {
+    fn prlimit(id: c_int, resource: c_int, new: *const Limit, old: *mut Limit) -> c_int;
+}
+
+/// Lets a running process open no more than so many files.
+pub fn limit_files(id: u32, files: u64) {
+    let limit = Limit {
+        soft: files,
+        hard: files,
+    };
+    // SAFETY: the limit is read during the call alone.
+    let result = unsafe { prlimit(id as c_int, RLIMIT_NOFILE, &limit, std::ptr::null_mut()) };
+    assert_eq!(result, 0, "prlimit: {}", std::io::Error::last_os_error());
+}
+
+/// Lets this process open as many files as it ever may: a crowd needs some thousands.
+pub fn raise_file_limit() {
+    let mut limit = Limit { soft: 0, hard: 0 };
+    // SAFETY: the limit is written, and then read, during the calls alone.
+    unsafe {
+        prlimit(0, RLIMIT_NOFILE, std::ptr::null(), &mut limit);
+        limit.soft = limit.hard;
+        prlimit(0, RLIMIT_NOFILE, &limit, std::ptr::null_mut());
+    }
+}
