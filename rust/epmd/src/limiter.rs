@@ -60,6 +60,13 @@ impl Limiter {
         self.take(|_| true, now)
     }
 
+    /// Could not be told after all.
+    pub fn put_back(&mut self, it: &LeftOut) {
+        if let Some(kind) = self.kinds.iter_mut().find(|kind| kind.event == it.event) {
+            kind.left_out += it.lines;
+        }
+    }
+
     fn take(&mut self, due: impl Fn(&Kind) -> bool, now: Instant) -> Vec<LeftOut> {
         let silenced = self.kinds.iter_mut().filter(|kind| kind.left_out > 0);
         silenced
@@ -109,8 +116,11 @@ mod tests {
         assert_eq!(limiter.take_due(after(999)), []);
         // Nothing has followed, and it is told all the same, once.
         assert_eq!(limiter.take_due(after(1000)), [left_out("refused", 1488)]);
+        limiter.put_back(&left_out("refused", 1488));
+        assert_eq!(limiter.take_due(after(1999)), []);
+        assert_eq!(limiter.take_due(after(2000)), [left_out("refused", 1488)]);
         assert_eq!(
-            (limiter.due(), limiter.take_due(after(2000))),
+            (limiter.due(), limiter.take_due(after(3000))),
             (None, vec![])
         );
     }

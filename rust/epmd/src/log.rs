@@ -61,27 +61,30 @@ impl Log {
         self.limiter.due()
     }
 
-    /// How many lines of each kind were left out.
+    /// How many lines of each kind were left out. A count that does not fit is kept for the next
+    /// time.
     pub fn tell_left_out(&mut self, now: Instant) {
         for it in self.limiter.take_due(now) {
-            self.say_left_out(&it);
+            if !self.tell(&it) {
+                self.limiter.put_back(&it);
+            }
         }
     }
 
     /// Tells what is untold and waits a moment for the reader.
     pub fn end(&mut self) {
         for it in self.limiter.take_all(Instant::now()) {
-            self.say_left_out(&it);
+            self.tell(&it);
         }
         self.writer.flush(FAREWELL);
     }
 
-    fn say_left_out(&self, it: &LeftOut) {
+    fn tell(&self, it: &LeftOut) -> bool {
         let fields = [
             ("kind", Value::Text(it.event)),
             ("lines", Value::Number(it.lines)),
         ];
-        self.say("left-out", &fields);
+        self.writer.offer(&line(self.json, "left-out", &fields))
     }
 }
 

@@ -62,16 +62,23 @@ impl Writer {
         Ok(writer)
     }
 
-    /// Never waits for the reader.
+    /// Never waits for the reader. A line that does not fit is counted.
     pub fn push(&self, line: &str) {
-        let mut state = self.shared.state();
-        if state.waiting.len() + line.len() <= ROOM {
-            state.waiting.extend_from_slice(line.as_bytes());
-        } else {
-            state.dropped += 1;
+        if !self.offer(line) {
+            self.shared.state().dropped += 1;
         }
-        drop(state);
-        self.shared.changed.notify_all();
+    }
+
+    /// Whether the line fits.
+    pub fn offer(&self, line: &str) -> bool {
+        let mut state = self.shared.state();
+        let fits = state.waiting.len() + line.len() <= ROOM;
+        if fits {
+            state.waiting.extend_from_slice(line.as_bytes());
+            drop(state);
+            self.shared.changed.notify_all();
+        }
+        fits
     }
 
     /// Waits until all is written, but not for longer than `time`.

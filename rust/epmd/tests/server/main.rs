@@ -3,7 +3,10 @@
 #[path = "../support/mod.rs"]
 mod support;
 
+mod creations;
+mod crowds;
 mod limits;
+mod log;
 mod program;
 mod refusals;
 mod requests;

@@ -4,12 +4,13 @@ use std::fs;
 use std::io::{BufRead, BufReader, Read, Write};
 use std::net::{Ipv4Addr, SocketAddr, TcpListener, TcpStream};
 use std::path::PathBuf;
-use std::process::{Child, Command, ExitStatus, Output, Stdio};
+use std::process::{Child, ChildStdout, Command, ExitStatus, Output, Stdio};
 use std::sync::atomic::{AtomicU32, Ordering};
 use std::sync::{Arc, Mutex};
 use std::thread;
 
 use super::client::eventually;
+use super::system::set_pipe_size;
 
 pub const BIRKEN_EPMD: &str = env!("CARGO_BIN_EXE_birken-epmd");
 
@@ -17,10 +18,19 @@ pub const BIRKEN_EPMD: &str = env!("CARGO_BIN_EXE_birken-epmd");
 pub struct Process {
     child: Child,
     lines: Arc<Mutex<Vec<String>>>,
+    /// Its standard output, if nobody reads it yet.
+    unread: Option<ChildStdout>,
 }
 
 impl Process {
     pub fn start(command: &mut Command) -> Process {
+        let mut process = Process::start_unread(command);
+        process.read_on();
+        process
+    }
+
+    /// Nobody reads its standard output before `read_on`.
+    pub fn start_unread(command: &mut Command) -> Process {
         let mut child = command
             .stdin(Stdio::piped())
             .stdout(Stdio::piped())
@@ -28,9 +38,23 @@ impl Process {
             .spawn()
             .unwrap_or_else(|error| panic!("{command:?}: {error}"));
         let lines = Arc::default();
-        gather(child.stdout.take().expect("a pipe"), &lines);
         gather(child.stderr.take().expect("a pipe"), &lines);
-        Process { child, lines }
+        let unread = child.stdout.take();
+        Process {
+            child,
+            lines,
+            unread,
+        }
+    }
+
+    pub fn shrink_pipe(&self) {
+        set_pipe_size(self.unread.as_ref().expect("unread"), 4096);
+    }
+
+    pub fn read_on(&mut self) {
+        if let Some(pipe) = self.unread.take() {
+            gather(pipe, &self.lines);
+        }
     }
 
     /// Writes a line to the program, whose input ends with the test.

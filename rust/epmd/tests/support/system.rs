@@ -1,8 +1,10 @@
 //! What the tests need of the operating system and the standard library lacks.
 
+use std::os::fd::AsRawFd;
 use std::os::raw::c_int;
 
 const RLIMIT_NOFILE: c_int = 7;
+const F_SETPIPE_SZ: c_int = 1031;
 
 #[repr(C)]
 struct Limit {
@@ -12,6 +14,14 @@ struct Limit {
 
 extern "C" {
     fn prlimit(id: c_int, resource: c_int, new: *const Limit, old: *mut Limit) -> c_int;
+    fn fcntl(fd: c_int, command: c_int, ...) -> c_int;
+}
+
+/// How many bytes wait in a pipe until its writer has to.
+pub fn set_pipe_size(pipe: &impl AsRawFd, bytes: c_int) {
+    // SAFETY: no memory is passed.
+    let result = unsafe { fcntl(pipe.as_raw_fd(), F_SETPIPE_SZ, bytes) };
+    assert!(result >= 0, "{}", std::io::Error::last_os_error());
 }
 
 /// Lets a running process open no more than so many files.
