@@ -5,9 +5,11 @@
 #![allow(dead_code)]
 
 mod client;
+mod namespace;
 mod process;
 mod system;
 
 pub use client::*;
+pub use namespace::*;
 pub use process::*;
 pub use system::*;

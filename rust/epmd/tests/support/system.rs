@@ -5,6 +5,7 @@ use std::os::raw::c_int;
 
 const RLIMIT_NOFILE: c_int = 7;
 const F_SETPIPE_SZ: c_int = 1031;
+const F_SETFD: c_int = 2;
 
 #[repr(C)]
 struct Limit {
@@ -15,6 +16,24 @@ struct Limit {
 extern "C" {
     fn prlimit(id: c_int, resource: c_int, new: *const Limit, old: *mut Limit) -> c_int;
     fn fcntl(fd: c_int, command: c_int, ...) -> c_int;
+    fn dup2(fd: c_int, new: c_int) -> c_int;
+}
+
+/// Gives a descriptor another number, under which a program started by `exec` finds it.
+pub fn become_descriptor(fd: c_int, number: c_int) -> std::io::Result<()> {
+    if fd == number {
+        // SAFETY: no memory is passed. The descriptor is to stay open in the program started.
+        return result(unsafe { fcntl(fd, F_SETFD, 0) });
+    }
+    // SAFETY: no memory is passed.
+    result(unsafe { dup2(fd, number) })
+}
+
+pub fn result(result: c_int) -> std::io::Result<()> {
+    match result {
+        -1 => Err(std::io::Error::last_os_error()),
+        _ => Ok(()),
+    }
 }
 
 /// How many bytes wait in a pipe until its writer has to.
