@@ -2,7 +2,7 @@
 #
 #   make run ARGS='--port 4369'   prove, build and start it
 #   make check-interop            its tests, with real Erlang nodes and against the real epmd
-#   make bench-epmd               look-ups a second, against the real epmd
+#   make bench-epmd               look-ups and registrations a second, against the real epmd
 
 .PHONY: run check-interop bench-epmd erlang
 
@@ -25,4 +25,4 @@ check-interop: lib erlang
 	    --include-ignored --test-threads=1 --nocapture
 
 bench-epmd: lib erlang
-	@cd rust && timeout --kill-after=10 180 cargo bench --quiet -p birken-epmd --bench port_please2
+	@cd rust && timeout --kill-after=10 180 cargo bench --quiet -p birken-epmd --bench epmd

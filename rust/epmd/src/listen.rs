@@ -5,7 +5,7 @@ use std::io;
 use std::net::{IpAddr, Ipv4Addr, Ipv6Addr, SocketAddr, TcpListener};
 
 use crate::options::Options;
-use crate::sys;
+use crate::sys::{self, Keepalive};
 
 const LOOPBACK: [IpAddr; 2] = [
     IpAddr::V4(Ipv4Addr::LOCALHOST),
@@ -22,8 +22,8 @@ pub struct Listeners {
 impl Listeners {
     pub fn new(options: &Options) -> io::Result<Listeners> {
         let sockets = match options.handed_over {
-            0 => listen(&options.listen, options.port)?,
-            count => sys::handed_over(count).map_err(|error| {
+            0 => listen(&options.listen, options.port, options.keepalive)?,
+            count => sys::handed_over(count, options.keepalive).map_err(|error| {
                 io::Error::other(format!("a socket of LISTEN_FDS cannot be used: {error}"))
             })?,
         };
@@ -59,13 +59,13 @@ fn wanted(asked: &[IpAddr]) -> Vec<Wanted> {
     all
 }
 
-fn listen(asked: &[IpAddr], port: u16) -> io::Result<Vec<TcpListener>> {
+fn listen(asked: &[IpAddr], port: u16, times: Keepalive) -> io::Result<Vec<TcpListener>> {
     let wanted = wanted(asked);
-    let mut outcome = listen_at(&wanted, port);
+    let mut outcome = listen_at(&wanted, port, times);
     for _ in 0..PICKS {
         match &outcome {
             Err(error) if port == 0 && error.kind() == io::ErrorKind::AddrInUse => {
-                outcome = listen_at(&wanted, port);
+                outcome = listen_at(&wanted, port, times);
             }
             _ => break,
         }
@@ -74,10 +74,10 @@ fn listen(asked: &[IpAddr], port: u16) -> io::Result<Vec<TcpListener>> {
 }
 
 /// Port 0: the first address picks one for all.
-fn listen_at(wanted: &[Wanted], mut port: u16) -> io::Result<Vec<TcpListener>> {
+fn listen_at(wanted: &[Wanted], mut port: u16, times: Keepalive) -> io::Result<Vec<TcpListener>> {
     let mut sockets = Vec::new();
     for &(ip, was_asked) in wanted {
-        match sys::listener(SocketAddr::new(ip, port)) {
+        match sys::listener(SocketAddr::new(ip, port), times) {
             Ok(socket) => {
                 port = socket.local_addr()?.port();
                 sockets.push(socket);

@@ -13,7 +13,7 @@ use crate::connection::{Connection, Node, Why};
 use crate::creations::{Creations, May};
 use crate::input::{Budget, Filled};
 use crate::log::Log;
-use crate::sys::{self, Keepalive};
+use crate::sys;
 
 /// 64 frames of the greatest length at a time, or 238 unread replies of the greatest length. See
 /// `Budget`.
@@ -50,7 +50,6 @@ pub struct Mapper {
 pub struct Rules {
     /// A connection without a node lives no longer.
     pub idle: Duration,
-    pub keepalive: Keepalive,
     pub callers: Callers,
 }
 
@@ -151,7 +150,7 @@ impl Mapper {
     /// The node whose ALIVE2 stands at the front.
     fn registered(&mut self, it: &mut Connection) {
         // A failure costs only that a vanished machine's node keeps its name for longer.
-        let _ = sys::keep_alive(&it.stream, self.rules.keepalive);
+        let _ = sys::keep_alive(&it.stream);
         let Some(frame) = it.input.frame() else {
             return;
         };

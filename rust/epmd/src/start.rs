@@ -32,7 +32,6 @@ pub fn serve(options: &Options) -> io::Result<()> {
     say_listening(&mut log, &listeners, creations.next(), options);
     let rules = Rules {
         idle: options.idle_timeout,
-        keepalive: options.keepalive,
         callers: match options.allow_remote {
             true => Callers::anyone(),
             false => Callers::of_this_machine(listeners.addresses.iter().copied()),

@@ -54,7 +54,7 @@ extern "C" {
 
 /// Listens at an address. `::` takes IPv4 too, whatever the system's default is; every other
 /// address is taken alone.
-pub fn listener(address: SocketAddr) -> io::Result<TcpListener> {
+pub fn listener(address: SocketAddr, times: Keepalive) -> io::Result<TcpListener> {
     let family = c_int::from(family(address));
     let kind = SOCK_STREAM | CLOSE_ON_EXEC | NON_BLOCKING;
     // SAFETY: a new descriptor that nothing else owns.
@@ -67,12 +67,12 @@ pub fn listener(address: SocketAddr) -> io::Result<TcpListener> {
     let (bytes, length) = raw_address(address);
     // SAFETY: the address is read during the call alone, with its own length.
     check(unsafe { bind(socket.as_raw_fd(), bytes.as_ptr().cast(), length) })?;
-    prepare(&socket)?;
+    prepare(&socket, times)?;
     Ok(socket)
 }
 
 /// The sockets that the starter of this process listens with on its behalf.
-pub fn handed_over(count: u16) -> io::Result<Vec<TcpListener>> {
+pub fn handed_over(count: u16, times: Keepalive) -> io::Result<Vec<TcpListener>> {
     let take = |at: u16| {
         let fd = FIRST_HANDED_OVER + c_int::from(at);
         // SAFETY: by the protocol these descriptors belong to this process from its start on, and
@@ -84,15 +84,19 @@ pub fn handed_over(count: u16) -> io::Result<Vec<TcpListener>> {
         // SAFETY: no memory is passed.
         check(unsafe { fcntl(fd, F_SETFD, FD_CLOEXEC) })?;
         socket.set_nonblocking(true)?;
-        prepare(&socket)?;
+        prepare(&socket, times)?;
         Ok(socket)
     };
     (0..count).map(take).collect()
 }
 
-fn prepare(socket: &TcpListener) -> io::Result<()> {
+/// What is set here holds for each connection that is accepted.
+fn prepare(socket: &TcpListener, times: Keepalive) -> io::Result<()> {
     set_option(socket, SOL_SOCKET, SO_SNDBUF, BUFFERS)?;
     set_option(socket, SOL_SOCKET, SO_RCVBUF, BUFFERS)?;
+    set_option(socket, IPPROTO_TCP, TCP_KEEPIDLE, times.idle.into())?;
+    set_option(socket, IPPROTO_TCP, TCP_KEEPINTVL, times.interval.into())?;
+    set_option(socket, IPPROTO_TCP, TCP_KEEPCNT, times.count.into())?;
     // SAFETY: no memory is passed.
     check(unsafe { listen(socket.as_raw_fd(), BACKLOG) }).map(drop)
 }
@@ -150,11 +154,9 @@ pub struct Keepalive {
     pub count: u8,
 }
 
-/// A peer whose machine has vanished is noticed although nothing is sent to it.
-pub fn keep_alive(stream: &TcpStream, times: Keepalive) -> io::Result<()> {
-    set_option(stream, IPPROTO_TCP, TCP_KEEPIDLE, times.idle.into())?;
-    set_option(stream, IPPROTO_TCP, TCP_KEEPINTVL, times.interval.into())?;
-    set_option(stream, IPPROTO_TCP, TCP_KEEPCNT, times.count.into())?;
+/// A peer whose machine has vanished is noticed, in the listener's times, although nothing is sent
+/// to it.
+pub fn keep_alive(stream: &TcpStream) -> io::Result<()> {
     set_option(stream, SOL_SOCKET, SO_KEEPALIVE, 1)
 }
 

@@ -12,7 +12,7 @@ use crate::support::*;
 fn has_ipv6() -> bool {
     let has = TcpListener::bind("[::1]:0").is_ok();
     if !has {
-        println!("skipped: this system has no ::1");
+        say("skipped: this system has no ::1");
     }
     has
 }

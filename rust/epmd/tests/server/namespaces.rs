@@ -28,7 +28,7 @@ fn in_namespaces(test: &str, body: impl FnOnce()) {
     command.env(INSIDE, "1");
     let output = match enter_namespaces(&mut command).output() {
         Ok(output) => output,
-        Err(error) => return println!("skipped {test}: no namespaces ({error})"),
+        Err(error) => return say(&format!("skipped {test}: no namespaces ({error})")),
     };
     let (out, err) = (text(&output.stdout[..]), text(&output.stderr[..]));
     assert!(output.status.success(), "{out}{err}");

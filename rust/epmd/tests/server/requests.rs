@@ -184,9 +184,13 @@ fn of_many_alive2_that_fail_two_are_answered() {
     assert!(reply.closed);
     assert_eq!(reply.bytes, [118, 1, 0, 0, 0, 0].repeat(2));
     sender.join().unwrap();
-    let lines = mapper.process.lines();
-    let failed = lines.iter().filter(|it| it.contains("not-registered"));
-    assert_eq!(failed.count(), 2);
+    let failed = || {
+        let lines = mapper.process.lines();
+        let about = lines.iter().filter(|it| it.contains("not-registered"));
+        about.count()
+    };
+    eventually("both are told", || failed() >= 2);
+    assert_eq!(failed(), 2);
 }
 
 #[test]

@@ -2,7 +2,7 @@
 //! sends any bytes.
 
 // Each of them uses a part of this.
-#![allow(dead_code)]
+#![allow(dead_code, unused_imports)]
 
 mod client;
 mod namespace;

@@ -257,6 +257,11 @@ pub fn free_port() -> u16 {
     listener.local_addr().expect("address").port()
 }
 
+/// A line that is seen although the test passes.
+pub fn say(line: &str) {
+    let _ = writeln!(std::io::stderr(), "{line}");
+}
+
 /// All of a pipe's text.
 pub fn text(mut pipe: impl Read) -> String {
     let mut text = String::new();
