@@ -84,10 +84,10 @@ fn what_the_real_epmd_is_told_by_the_environment_counts_here_too() {
     command
         .arg("--names")
         .env("ERL_EPMD_PORT", port.to_string());
-    let output = command.output().unwrap();
+    let output = outcome(&mut command);
     assert_eq!(text(&output.stdout[..]), "NAME   PORT\n");
     let mut command = birken_epmd();
-    let output = command.env("ERL_EPMD_PORT", "many").output().unwrap();
+    let output = outcome(command.env("ERL_EPMD_PORT", "many"));
     assert_eq!(output.status.code(), Some(2));
     assert!(text(&output.stderr[..]).contains("ERL_EPMD_PORT"));
 }
@@ -138,10 +138,10 @@ fn sockets_that_are_handed_over_are_served() {
 fn sockets_that_are_no_use_end_the_start() {
     let state = Folder::new();
     let socket = TcpListener::bind("127.0.0.1:0").unwrap();
-    let output = handed_over(&socket, &state, &["--port", "9"]).output();
-    assert_eq!(output.unwrap().status.code(), Some(2));
+    let output = outcome(&mut handed_over(&socket, &state, &["--port", "9"]));
+    assert_eq!(output.status.code(), Some(2));
     let file = std::fs::File::open("/dev/null").unwrap();
-    let output = handed_over(&file, &state, &[]).output().unwrap();
+    let output = outcome(&mut handed_over(&file, &state, &[]));
     assert_eq!(output.status.code(), Some(1));
     assert!(text(&output.stderr[..]).contains("LISTEN_FDS"));
 }

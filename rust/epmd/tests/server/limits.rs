@@ -158,7 +158,7 @@ fn more_connections_than_files_are_refused_at_the_start() {
     let line = "ulimit -n 100 && exec \"$0\" --port 0 --state-dir \"$1\" --max-connections 200";
     let mut command = std::process::Command::new("sh");
     command.args(["-c", line, BIRKEN_EPMD, state.path()]);
-    let output = command.output().unwrap();
+    let output = outcome(&mut command);
     assert_eq!(output.status.code(), Some(1));
     let message = text(&output.stderr[..]);
     assert!(message.contains("--max-connections 200") && message.contains(" 100 "));

@@ -8,8 +8,9 @@ use std::process::{Child, ChildStdout, Command, ExitStatus, Output, Stdio};
 use std::sync::atomic::{AtomicU32, Ordering};
 use std::sync::{Arc, Mutex};
 use std::thread;
+use std::time::{Duration, Instant};
 
-use super::client::eventually;
+use super::client::{eventually, PATIENCE};
 use super::system::set_pipe_size;
 
 pub const BIRKEN_EPMD: &str = env!("CARGO_BIN_EXE_birken-epmd");
@@ -228,8 +229,23 @@ pub fn run(words: &[&str]) -> Output {
     let mut command = birken_epmd();
     // Where the default leads, should these words not name a folder.
     command.env("XDG_STATE_HOME", state.path());
-    command.args(words).stdin(Stdio::null());
-    command.output().expect("birken-epmd")
+    outcome(command.args(words))
+}
+
+/// Runs a program that ends by itself, to its end.
+pub fn outcome(command: &mut Command) -> Output {
+    let command = command.stdin(Stdio::null()).stdout(Stdio::piped());
+    let mut child = command.stderr(Stdio::piped()).spawn().expect("a program");
+    let end = Instant::now() + PATIENCE;
+    while child.try_wait().expect("wait").is_none() {
+        if Instant::now() > end {
+            let _ = child.kill();
+            let _ = child.wait();
+            panic!("not ended within {PATIENCE:?}: {command:?}");
+        }
+        thread::sleep(Duration::from_millis(5));
+    }
+    child.wait_with_output().expect("its output")
 }
 
 /// The real epmd on a port of its own, loopback only.
