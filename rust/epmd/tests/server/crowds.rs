@@ -21,31 +21,66 @@ fn is_served(port: u16) -> bool {
     reply.is_ok_and(|reply| reply.starts_with(&[119, 0, 0x11, 0x12]))
 }
 
-/// So many strangers, each of which looks at its connection again and again: `keep` tells whether
-/// it is still good, and a new one is opened where it is not. Meanwhile every look-up is answered.
-fn nobody_is_shut_out(strangers: usize, keep: impl Fn(&mut TcpStream) -> bool + Sync) {
+/// Strangers of a kind: how many, and what each does with its connection again and again. A new
+/// one is opened where this tells that it is closed.
+struct Strangers {
+    count: usize,
+    keeps: fn(&mut TcpStream) -> bool,
+}
+
+const SILENT: Strangers = Strangers {
+    count: 2_000,
+    keeps: |_| {
+        thread::sleep(Duration::from_micros(10));
+        true
+    },
+};
+
+const RECONNECT: Strangers = Strangers {
+    count: 600,
+    keeps: |stream| !is_closed(stream),
+};
+
+const REPEAT: Strangers = Strangers {
+    count: 511,
+    keeps: |stream| {
+        let _ = stream.write(&alive2("ride", 1));
+        !is_closed(stream)
+    },
+};
+
+impl Strangers {
+    fn come(&self, port: u16, turns: &AtomicUsize, over: &AtomicBool) {
+        let mut crowd: Vec<TcpStream> = (0..self.count).map(|_| open(port)).collect();
+        while !over.load(Ordering::Relaxed) {
+            for stream in &mut crowd {
+                if !(self.keeps)(stream) {
+                    *stream = open(port);
+                }
+            }
+            turns.fetch_add(1, Ordering::Relaxed);
+        }
+    }
+}
+
+/// While all of them are there, every look-up is answered, and a node stays.
+fn nobody_is_shut_out(kinds: &[Strangers]) {
     raise_file_limit();
     let mapper = Mapper::start(&["--quiet"]);
-    let (mut node, _) = register(mapper.port, "ride", 4370);
-    let (over, turns) = (AtomicBool::new(false), AtomicUsize::new(0));
+    let (port, over) = (mapper.port, AtomicBool::new(false));
+    let (mut node, _) = register(port, "ride", 4370);
+    let turns: Vec<AtomicUsize> = kinds.iter().map(|_| AtomicUsize::new(0)).collect();
     let served = thread::scope(|scope| {
-        scope.spawn(|| {
-            let mut crowd: Vec<TcpStream> = (0..strangers).map(|_| open(mapper.port)).collect();
-            while !over.load(Ordering::Relaxed) {
-                for stream in &mut crowd {
-                    if !keep(stream) {
-                        *stream = open(mapper.port);
-                    }
-                }
-                turns.fetch_add(1, Ordering::Relaxed);
-            }
-        });
+        for (kind, turns) in kinds.iter().zip(&turns) {
+            let over = &over;
+            scope.spawn(move || kind.come(port, turns, over));
+        }
         eventually("the strangers are there", || {
-            turns.load(Ordering::Relaxed) > 0
+            turns.iter().all(|it| it.load(Ordering::Relaxed) > 0)
         });
         let served = (0..LOOK_UPS).filter(|_| {
             thread::sleep(Duration::from_millis(5));
-            is_served(mapper.port)
+            is_served(port)
         });
         let served = served.count();
         over.store(true, Ordering::Relaxed);
@@ -69,23 +104,21 @@ fn is_closed(stream: &mut TcpStream) -> bool {
 }
 
 #[test]
-fn two_thousand_silent_ones_shut_nobody_out() {
-    nobody_is_shut_out(2_000, |_| {
-        thread::sleep(Duration::from_micros(10));
-        true
-    });
+fn silent_ones_shut_nobody_out() {
+    nobody_is_shut_out(&[SILENT]);
 }
 
 #[test]
-fn six_hundred_that_reconnect_shut_nobody_out() {
-    nobody_is_shut_out(600, |stream| !is_closed(stream));
+fn those_who_reconnect_shut_nobody_out() {
+    nobody_is_shut_out(&[RECONNECT]);
 }
 
 #[test]
-fn five_hundred_and_eleven_that_repeat_shut_nobody_out() {
-    let request = alive2("ride", 1);
-    nobody_is_shut_out(511, |stream| {
-        let _ = stream.write(&request);
-        !is_closed(stream)
-    });
+fn those_who_repeat_shut_nobody_out() {
+    nobody_is_shut_out(&[REPEAT]);
+}
+
+#[test]
+fn all_of_them_at_once_shut_nobody_out() {
+    nobody_is_shut_out(&[SILENT, RECONNECT, REPEAT]);
 }
