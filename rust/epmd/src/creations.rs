@@ -5,16 +5,8 @@ use std::io;
 use std::path::Path;
 use std::time::{Duration, Instant};
 
-use crate::mark::Mark;
+use crate::reserve::Reserved;
 
-/// How many numbers are reserved at a time. A crash spends what is left of them, as much as the
-/// clock does in 16 s.
-const BLOCK: u32 = 16_384;
-/// Fewer than these left, and the next block is reserved: a disk that fails is told of while there
-/// are still numbers to give.
-const LOW: u32 = BLOCK / 2;
-/// How long a disk that failed is left alone.
-const PATIENCE: Duration = Duration::from_secs(1);
 /// By the clock alone, so long for each number: the clock counts milliseconds.
 const TICK: Duration = Duration::from_millis(1);
 
@@ -26,18 +18,11 @@ pub struct Creations {
 /// What makes the next number one that was never given.
 enum Source {
     /// It is before the mark on disk.
-    Marked(Marked),
+    Reserved(Reserved),
     /// The clock has passed it, so a later start is ahead of it.
     Clock { start: Instant, given: u32 },
     /// The operator says so.
     Operator,
-}
-
-struct Marked {
-    mark: Mark,
-    /// Numbers before the mark that are not given yet.
-    left: u32,
-    again: Option<Instant>,
 }
 
 /// Whether a number may be given.
@@ -52,17 +37,10 @@ pub enum May {
 impl Creations {
     /// By a mark in `folder`, from the greater of the mark and `first`.
     pub fn marked(folder: &Path, first: u32) -> io::Result<Creations> {
-        let (mark, number) = Mark::open(folder)?;
-        let next = number.map_or(first, |number| later(number, first));
-        let mut marked = Marked {
-            mark,
-            left: 0,
-            again: None,
-        };
-        marked.reserve(next)?;
+        let (reserved, next) = Reserved::open(folder, first)?;
         Ok(Creations {
             next,
-            source: Source::Marked(marked),
+            source: Source::Reserved(reserved),
         })
     }
 
@@ -93,15 +71,7 @@ impl Creations {
                 time if time <= now => (May::Now, None),
                 time => (May::Later(time), None),
             },
-            Source::Marked(marked) => {
-                let error = marked.refill(self.next, now).err();
-                let may = if marked.left > 0 {
-                    May::Now
-                } else {
-                    May::Never
-                };
-                (may, error)
-            }
+            Source::Reserved(reserved) => reserved.may_give(self.next, now),
         }
     }
 
@@ -110,43 +80,24 @@ impl Creations {
         let given = self.next;
         self.next = after(given, 1);
         match &mut self.source {
-            Source::Operator => {}
+            Source::Operator | Source::Reserved(_) => {}
             Source::Clock { given, .. } => *given = given.saturating_add(1),
-            Source::Marked(marked) => marked.left -= 1,
         }
         given
     }
 
     /// The end: numbers that were reserved and not given are free again.
     pub fn end(&mut self) -> io::Result<()> {
-        match &self.source {
-            Source::Marked(marked) => marked.mark.write(self.next),
+        match &mut self.source {
+            Source::Reserved(reserved) => reserved.end(self.next),
             _ => Ok(()),
         }
     }
 }
 
-impl Marked {
-    fn refill(&mut self, next: u32, now: Instant) -> io::Result<()> {
-        if self.left >= LOW || self.again.is_some_and(|time| now < time) {
-            return Ok(());
-        }
-        self.again = Some(now + PATIENCE);
-        self.reserve(next)?;
-        self.again = None;
-        Ok(())
-    }
-
-    fn reserve(&mut self, next: u32) -> io::Result<()> {
-        self.mark.write(after(next, BLOCK))?;
-        self.left = BLOCK;
-        Ok(())
-    }
-}
-
 /// Where to start: by the mark, or by the clock if it is ahead of the mark. The numbers come round,
 /// so the shorter way decides which of two is ahead.
-fn later(mark: u32, clock: u32) -> u32 {
+pub fn later(mark: u32, clock: u32) -> u32 {
     let ahead = distance(mark, clock);
     if ahead < u32::MAX / 2 {
         clock
@@ -156,7 +107,7 @@ fn later(mark: u32, clock: u32) -> u32 {
 }
 
 /// How many steps lead from one number to the other.
-fn distance(from: u32, to: u32) -> u32 {
+pub fn distance(from: u32, to: u32) -> u32 {
     match to.checked_sub(from) {
         Some(steps) => steps,
         None => u32::MAX - (from - to),
@@ -164,7 +115,7 @@ fn distance(from: u32, to: u32) -> u32 {
 }
 
 /// So many steps on: 4,294,967,295 is followed by 1, as in the registry.
-fn after(number: u32, steps: u32) -> u32 {
+pub fn after(number: u32, steps: u32) -> u32 {
     match number.checked_add(steps) {
         Some(sum) => sum,
         None => steps - (u32::MAX - number),

@@ -3,6 +3,7 @@ use std::fs;
 use std::path::PathBuf;
 
 use super::*;
+use crate::reserve::{BLOCK, PATIENCE};
 
 const DAY: u32 = 86_400_000;
 
@@ -91,9 +92,12 @@ fn two_million_numbers_over_crashes_and_none_comes_again() {
         let mut creations = Creations::marked(&folder.0, u32::MAX - 300_000).unwrap();
         round += 1;
         for _ in 0..(round * 2_654_435_761) % 60_000 {
-            assert_eq!(creations.may_give(now).0, May::Now);
+            while creations.may_give(now).0 != May::Now {
+                std::thread::yield_now();
+            }
             assert!(seen.insert(creations.give()), "given again");
         }
+        drop(creations);
         fs::write(folder.0.join("next-creation.new"), "birken-epmd 1 next").unwrap();
     }
     assert!(round > 20 && !seen.contains(&0));
@@ -122,17 +126,22 @@ fn a_disk_that_fails_is_told_of_once_a_second_and_numbers_end_with_the_block() {
     loop {
         let (may, error) = creations.may_give(start);
         errors += usize::from(error.is_some());
-        if may == May::Never {
-            break;
+        match may {
+            May::Now => {
+                creations.give();
+                given += 1;
+            }
+            May::Later(_) => std::thread::yield_now(),
+            May::Never => break,
         }
-        creations.give();
-        given += 1;
     }
     assert_eq!((errors, given), (1, BLOCK));
-    assert!(creations.may_give(start + PATIENCE).1.is_some());
+    assert_eq!(creations.may_give(start + PATIENCE / 2).0, May::Never);
     fs::remove_dir(folder.0.join("next-creation.new")).unwrap();
-    assert_eq!(creations.may_give(start + PATIENCE).0, May::Never);
-    assert_eq!(creations.may_give(start + 2 * PATIENCE).0, May::Now);
+    let later = start + 2 * PATIENCE;
+    while creations.may_give(later).0 != May::Now {
+        assert_ne!(creations.may_give(later).0, May::Never);
+    }
     assert_eq!(creations.give(), BLOCK + 1);
 }
 

@@ -15,6 +15,7 @@ mod mark;
 mod names;
 mod options;
 mod order;
+mod reserve;
 mod say;
 mod server;
 mod start;

@@ -159,6 +159,7 @@ impl Mapper {
             port: u16::from_be_bytes([frame[3], frame[4]]),
             creation: self.creations.give(),
         });
+        debug_assert_eq!(self.registry.next_creation(), self.creations.next());
         self.nodes += 1;
         self.say_node("registered", it, None);
     }

@@ -19,14 +19,16 @@ pub struct Mark {
     folder: PathBuf,
     /// The folder itself: a file that was renamed is sure to stay so only when this is on disk.
     entries: File,
-    /// Two mappers with one mark would give the same numbers.
-    _lock: File,
 }
+
+/// As long as there is this, no other process has the mark: two mappers with one would give the
+/// same numbers.
+pub struct Lock(#[expect(dead_code, reason = "closed at the end")] File);
 
 impl Mark {
     /// The mark in a folder, which is made if there is none, and the number that it holds, if one
     /// was ever written.
-    pub fn open(folder: &Path) -> io::Result<(Mark, Option<u32>)> {
+    pub fn open(folder: &Path) -> io::Result<(Mark, Lock, Option<u32>)> {
         let about = |what: &str, error: io::Error| {
             io::Error::other(format!("{what} {}: {error}", folder.display()))
         };
@@ -36,10 +38,9 @@ impl Mark {
         let mark = Mark {
             folder: folder.to_path_buf(),
             entries,
-            _lock: lock,
         };
         let number = mark.read()?;
-        Ok((mark, number))
+        Ok((mark, lock, number))
     }
 
     fn read(&self) -> io::Result<Option<u32>> {
@@ -93,7 +94,7 @@ fn make_folder(folder: &Path) -> io::Result<()> {
     }
 }
 
-fn lock_in(folder: &Path) -> io::Result<File> {
+fn lock_in(folder: &Path) -> io::Result<Lock> {
     let path = folder.join(LOCK);
     let about = |why: &dyn std::fmt::Display| {
         io::Error::other(format!("cannot lock {}: {why}", path.display()))
@@ -102,7 +103,7 @@ fn lock_in(folder: &Path) -> io::Result<File> {
     let file = options.create(true).truncate(false).write(true).open(&path);
     let file = file.map_err(|error| about(&error))?;
     match sys::lock(&file) {
-        Ok(true) => Ok(file),
+        Ok(true) => Ok(Lock(file)),
         Ok(false) => Err(about(
             &"another birken-epmd keeps its mark there; --state-dir names another folder",
         )),
