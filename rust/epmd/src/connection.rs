@@ -165,3 +165,47 @@ fn written(result: io::Result<usize>) -> Result<usize, Why> {
         },
     }
 }
+
+#[cfg(test)]
+mod tests {
+    use super::*;
+    use std::io::Read;
+    use std::net::TcpListener;
+
+    /// A peer that reads nothing until there is no room for it, and then reads all.
+    #[test]
+    fn what_the_peer_has_no_room_for_is_kept_and_sent_later() {
+        let listener = TcpListener::bind("127.0.0.1:0").unwrap();
+        let mut peer = TcpStream::connect(listener.local_addr().unwrap()).unwrap();
+        let (stream, address) = listener.accept().unwrap();
+        stream.set_nonblocking(true).unwrap();
+        let mut filler = 0;
+        while let Ok(count) = (&stream).write(&[b'f'; 4096]) {
+            filler += count;
+        }
+        let mut it = Connection::new(stream, address, 1, 0, Instant::now());
+        let reply: Vec<u8> = (0..17_604).map(|at| at as u8).collect();
+        let mut budget = Budget::new(20_000);
+        it.send(&reply, &mut budget).unwrap();
+        assert!(!it.all_sent() && it.borrowed() > 0);
+        assert_eq!((it.state(), it.interest()), ("reply not read", WRITABLE));
+        assert!(!budget.take(20_000));
+        let mut taken = vec![0; filler];
+        peer.read_exact(&mut taken).unwrap();
+        let mut rest = vec![0; reply.len()];
+        let reader = std::thread::spawn(move || {
+            peer.read_exact(&mut rest).unwrap();
+            (peer, rest)
+        });
+        while !it.all_sent() {
+            it.send_rest(&mut budget).unwrap();
+        }
+        let (_peer, rest) = reader.join().unwrap();
+        assert_eq!(rest, reply);
+        assert!(budget.take(20_000), "all of it is given back");
+        // A second reply finds no memory if the others hold it all.
+        while (&it.stream).write(&[b'f'; 4096]).is_ok() {}
+        let outcome = it.send(&reply, &mut Budget::new(0));
+        assert!(matches!(outcome, Err(Why::NoMemory)));
+    }
+}
