@@ -1,5 +1,5 @@
 //! Look-ups and registrations over loopback: this mapper and the real epmd in turn, in one run.
-//! `make bench-epmd` runs it; words behind it choose rows by their beginning ("look-up, 16").
+//! `make bench-epmd` runs it; words behind it choose rows by their beginning ("look-up, 1,").
 //!
 //! A client of a look-up connects, asks (PORT_PLEASE2), reads until the mapper closes and begins
 //! again, as nodes do. A client of a registration connects, registers a name (ALIVE2), reads the
@@ -11,7 +11,7 @@
 #[path = "../tests/support/mod.rs"]
 mod support;
 
-use std::net::Shutdown;
+use std::net::{Shutdown, TcpStream};
 use std::thread;
 use std::time::{Duration, Instant};
 
@@ -33,7 +33,7 @@ impl Visit {
     /// Makes the visit; whether it counts.
     fn make(self, port: u16, client: usize, count: usize) -> bool {
         match self {
-            Visit::LookUp => ask(port, &port_please2("held7")).starts_with(&[119, 0]),
+            Visit::LookUp => ask(port, &port_please2("held0")).starts_with(&[119, 0]),
             Visit::Registration => {
                 // In turn, since the real epmd may not have seen the end of the last one yet.
                 let name = format!("c{client}-{}", count % 4);
@@ -106,39 +106,68 @@ fn median(mut numbers: Vec<f64>) -> f64 {
     numbers[numbers.len() / 2]
 }
 
-fn main() {
-    let words: Vec<String> = std::env::args().skip(1).collect();
-    let chosen: Vec<&String> = words.iter().filter(|it| !it.starts_with('-')).collect();
-    let (ours, real) = (Mapper::start(&["--quiet"]), RealEpmd::start());
-    let hold = |port| -> Vec<_> {
-        let names = (0..HELD).map(|at| register(port, &format!("held{at}"), 4370));
-        names.collect()
-    };
-    let _nodes = [ours.port, real.port].map(hold);
-    println!("| visits, clients | mapper | a second | 99th percentile, µs | processor, µs |");
-    println!("|---|---|---|---|---|");
-    let mut ratios = Vec::new();
-    for (visit, clients) in [
-        (Visit::LookUp, 1),
-        (Visit::LookUp, 16),
-        (Visit::LookUp, 64),
-        (Visit::Registration, 1),
-        (Visit::Registration, 8),
-    ] {
-        let what = format!("{}, {clients}", visit.name());
-        if !chosen.is_empty() && !chosen.iter().any(|it| what.starts_with(it.as_str())) {
-            continue;
+/// Both mappers, and the connections that hold names.
+struct Contest {
+    ours: Mapper,
+    real: RealEpmd,
+    nodes: Vec<TcpStream>,
+}
+
+impl Contest {
+    /// So many names are held by both from now on.
+    fn hold(&mut self, count: u16) {
+        let held = (self.nodes.len() / 2) as u16;
+        for at in held..count {
+            for port in [self.ours.port, self.real.port] {
+                self.nodes
+                    .push(register(port, &format!("held{at}"), 4370).0);
+            }
         }
+    }
+
+    /// Prints a row for each, and gives the ratio.
+    fn run(&self, what: &str, visit: Visit, clients: usize) -> f64 {
         let (mut here, mut there) = (Measured::default(), Measured::default());
         for _ in 0..ROUNDS {
+            let (ours, real) = (&self.ours, &self.real);
             round(visit, &ours.process, ours.port, clients, &mut here);
             round(visit, &real.process, real.port, clients, &mut there);
         }
         let pairs = here.rates.iter().zip(&there.rates);
         let ratio = median(pairs.map(|(here, there)| here / there).collect());
-        ratios.push(format!("{what}: {ratio:.2}"));
-        row(&what, "birken-epmd", here);
-        row(&what, "epmd (OTP)", there);
+        row(what, "birken-epmd", here);
+        row(what, "epmd (OTP)", there);
+        ratio
+    }
+}
+
+fn main() {
+    let words: Vec<String> = std::env::args().skip(1).collect();
+    let chosen: Vec<&String> = words.iter().filter(|it| !it.starts_with('-')).collect();
+    let mut contest = Contest {
+        ours: Mapper::start(&["--quiet"]),
+        real: RealEpmd::start(),
+        nodes: Vec::new(),
+    };
+    println!(
+        "| visits, names held, clients | mapper | a second | 99th percentile, µs | processor, µs |"
+    );
+    println!("|---|---|---|---|---|");
+    let mut ratios = Vec::new();
+    for (visit, held, clients) in [
+        (Visit::LookUp, 1, 1),
+        (Visit::LookUp, 1, 16),
+        (Visit::LookUp, 1, 64),
+        (Visit::LookUp, HELD, 16),
+        (Visit::Registration, HELD, 1),
+        (Visit::Registration, HELD, 8),
+    ] {
+        let what = format!("{}, {held}, {clients}", visit.name());
+        if chosen.is_empty() || chosen.iter().any(|it| what.starts_with(it.as_str())) {
+            contest.hold(held);
+            let ratio = contest.run(&what, visit, clients);
+            ratios.push(format!("{what}: {ratio:.2}"));
+        }
     }
     println!("times the real one's, the median of adjacent rounds:");
     println!("{}", ratios.join("; "));
