@@ -61,14 +61,17 @@ impl Server {
     /// Closes the connection without a node whose deadline is nearest. It is read once more before:
     /// who has asked gets the answer, and makes room by that.
     fn make_room(&mut self, now: Instant) {
-        while let Some(first) = self.connections.first_caller().map(token) {
+        while self.connections.is_full() {
+            let Some(first) = self.connections.first_caller().map(token) else {
+                return;
+            };
             self.attend(first, READABLE, now);
-            let still_there = self.connections.first_caller().map(token) == Some(first);
-            if still_there {
-                self.close(first, &Why::MadeRoom);
-            }
             if !self.connections.is_full() {
                 return;
+            }
+            // Who has registered a node just now stays, and is no caller any more.
+            if self.connections.first_caller().map(token) == Some(first) {
+                self.close(first, &Why::MadeRoom);
             }
         }
     }

@@ -137,14 +137,19 @@ impl Mapper {
         if !self.rules.callers.may_register(it.peer, &it.stream) {
             return Err(Why::NotLocal);
         }
+        match self.may_give(now) {
+            May::Never => Err(Why::NoCreation),
+            may => Ok(may),
+        }
+    }
+
+    /// Whether a creation may be given; a disk that failed is told of.
+    pub fn may_give(&mut self, now: Instant) -> May {
         let (may, error) = self.creations.may_give(now);
         if let Some(error) = error {
             self.say_disk_failed(&error);
         }
-        match may {
-            May::Never => Err(Why::NoCreation),
-            may => Ok(may),
-        }
+        may
     }
 
     /// The node whose ALIVE2 stands at the front.

@@ -218,7 +218,7 @@ impl Server {
     /// Registrations that waited, in their order, until one has to wait on.
     fn let_go(&mut self, now: Instant) {
         while !self.turn.held.is_empty() {
-            if let (May::Later(time), _) = self.mapper.creations.may_give(now) {
+            if let May::Later(time) = self.mapper.may_give(now) {
                 self.turn.held_until = Some(time);
                 return;
             }
