@@ -152,6 +152,8 @@ pub fn json_text(text: &str) -> String {
 #[cfg(test)]
 mod tests {
     use super::*;
+    use std::io::{BufRead, BufReader, Read};
+    use std::os::unix::net::UnixStream;
 
     const FIELDS: [(&str, Value); 3] = [
         ("name", Value::Name("a\n\"é".as_bytes())),
@@ -169,6 +171,35 @@ mod tests {
             json_line("T", "registered", &FIELDS),
             "{\"time\":\"T\",\"event\":\"registered\",\"name\":\"a\\n\\\"é\",\"port\":4370,\"peer\":\"[::1]:9\"}\n"
         );
+    }
+
+    /// Nobody reads, so there is no room for the count: it is told once there is.
+    #[test]
+    fn a_count_that_does_not_fit_is_told_later() {
+        let (mut reader, into) = UnixStream::pair().unwrap();
+        let mut log = Log {
+            json: false,
+            quiet: false,
+            limiter: Limiter::default(),
+            writer: Writer::new(into, |_| String::new()).unwrap(),
+        };
+        for _ in 0..60 {
+            log.admits("refused");
+        }
+        let after = |seconds| Instant::now() + Duration::from_secs(seconds);
+        while log.writer.offer("x\n") {}
+        log.writer.flush(Duration::from_millis(50));
+        while log.writer.offer("x\n") {}
+        log.tell_left_out(after(1));
+        assert!(log.due().is_some());
+        let mut part = [0; 65_536];
+        while !log.writer.offer("y\n") {
+            reader.read(&mut part).unwrap();
+        }
+        log.tell_left_out(after(3));
+        assert_eq!(log.due(), None);
+        let mut lines = BufReader::new(reader).lines().map_while(Result::ok);
+        assert!(lines.any(|it| it.contains(" left-out kind=refused lines=10")));
     }
 
     #[test]

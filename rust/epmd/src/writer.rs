@@ -44,7 +44,7 @@ impl Writer {
         Writer::new(File::from(stdout), tell)
     }
 
-    fn new(
+    pub fn new(
         into: impl Write + Send + 'static,
         tell: impl Fn(u64) -> String + Send + 'static,
     ) -> io::Result<Writer> {

@@ -24,6 +24,20 @@ fn a_full_house_makes_room_for_a_newcomer() {
     assert!(next.iter_mut().all(is_open));
 }
 
+/// Many are accepted in one turn, into a house for one: each has asked before the next comes in.
+#[test]
+fn who_has_asked_is_answered_before_room_is_made() {
+    let mapper = Mapper::start(&["--max-connections", "1"]);
+    mapper.process.signal("STOP");
+    let mut callers: Vec<TcpStream> = (0..20)
+        .map(|_| send(mapper.port, &port_please2("nobody")))
+        .collect();
+    mapper.process.signal("CONT");
+    for caller in &mut callers {
+        assert_eq!(read_for(caller, PATIENCE).bytes, b"w\x01");
+    }
+}
+
 #[test]
 fn nobody_leaves_for_a_newcomer_but_callers_without_a_node() {
     let mapper = Mapper::start(&["--max-connections", "2"]);
