@@ -194,7 +194,7 @@ mod tests {
         assert!(log.due().is_some());
         let mut part = [0; 65_536];
         while !log.writer.offer("y\n") {
-            reader.read(&mut part).unwrap();
+            let _count = reader.read(&mut part).unwrap();
         }
         log.tell_left_out(after(3));
         assert_eq!(log.due(), None);

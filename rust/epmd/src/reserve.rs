@@ -3,7 +3,7 @@
 
 use std::io;
 use std::path::Path;
-use std::sync::mpsc::{channel, Receiver, Sender};
+use std::sync::mpsc::{channel, Receiver, Sender, TryRecvError};
 use std::thread;
 use std::time::{Duration, Instant};
 
@@ -82,21 +82,20 @@ impl Reserved {
 
     /// What has become of the mark that was asked for.
     fn take_outcome(&mut self, now: Instant) -> io::Result<()> {
-        let Ok(outcome) = self.outcomes.try_recv() else {
+        let Some(mark) = self.asked else {
             return Ok(());
         };
-        let mark = self.asked.take();
+        let outcome = match self.outcomes.try_recv() {
+            Ok(outcome) => outcome,
+            Err(TryRecvError::Empty) => return Ok(()),
+            Err(TryRecvError::Disconnected) => Err(io::Error::other("the mark's thread has ended")),
+        };
+        self.asked = None;
         match outcome {
-            Ok(()) => {
-                self.until = mark.unwrap_or(self.until);
-                self.again = None;
-                Ok(())
-            }
-            Err(error) => {
-                self.again = Some(now + PATIENCE);
-                Err(error)
-            }
+            Ok(()) => (self.until, self.again) = (mark, None),
+            Err(_) => self.again = Some(now + PATIENCE),
         }
+        outcome
     }
 
     /// The mark falls back to `next`, so that numbers reserved and not given are not spent. Waits

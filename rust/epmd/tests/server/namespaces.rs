@@ -5,6 +5,7 @@
 use std::fs;
 use std::io::{Read, Write};
 use std::net::{SocketAddr, TcpStream};
+use std::path::Path;
 use std::process::Command;
 use std::sync::Arc;
 use std::thread::sleep;
@@ -141,48 +142,57 @@ fn visit(port: u16) -> Reply {
     }
 }
 
-/// No number is given that is not reserved on disk; questions are answered all the same.
+fn creation(reply: &Reply) -> Option<u32> {
+    let bytes = reply.bytes.get(2..)?.try_into().ok()?;
+    is_registered(reply).then(|| u32::from_be_bytes(bytes))
+}
+
+/// Takes all room of the disk that a file is on, until the file is removed.
+fn fill(path: &Path) {
+    let mut file = fs::File::create(path).unwrap();
+    while file.write_all(&[0; 512]).is_ok() {}
+}
+
+/// No number is given that is not reserved on disk; questions are answered all the same. Once there
+/// is room, registrations go on with the next number.
 #[test]
-fn on_a_full_disk_registrations_end_with_the_numbers_that_are_reserved() {
-    in_namespaces(
-        "on_a_full_disk_registrations_end_with_the_numbers_that_are_reserved",
-        || {
-            set_up_loopback(&[]);
-            let state = Arc::new(Folder::new());
-            mount_small_disk(state.path());
-            let mapper = Mapper::with_state(Arc::clone(&state), 0, &["--first-creation=7"]);
-            let filler = state.file("filler");
-            let mut file = fs::File::create(&filler).unwrap();
-            while file.write_all(&[0; 512]).is_ok() {}
-            let mut given = 0;
-            while is_registered(&visit(mapper.port)) {
-                given += 1;
-                assert!(given < 200_000, "more than any block has");
-            }
-            assert!(given > 100, "{given}");
-            mapper.process.line_with("state-failed");
-            mapper
-                .process
-                .line_with("registration-refused reason=\"no creation");
-            assert_eq!(ask(mapper.port, &port_please2("nobody")), b"w\x01");
-            // Once there is room, registrations go on with the next number.
-            fs::remove_file(&filler).unwrap();
-            drop(file);
-            let mut next = None;
-            eventually("there is room", || {
-                let reply = visit(mapper.port);
-                sleep(Duration::from_millis(100));
-                next = is_registered(&reply).then_some(reply.bytes);
-                next.is_some()
-            });
-            let creation = next.unwrap()[2..].try_into().map(u32::from_be_bytes).ok();
-            assert_eq!(creation, Some(7 + given));
-            // A start on a full disk ends with a message.
-            drop(mapper);
-            fs::write(&filler, vec![0; 1 << 20]).expect_err("full");
-            let output = run(&["--port", "0", "--state-dir", state.path()]);
-            assert_eq!(output.status.code(), Some(1));
-            assert!(text(&output.stderr[..]).contains("cannot write"));
-        },
-    );
+fn on_a_full_disk_registrations_end_with_the_block() {
+    in_namespaces("on_a_full_disk_registrations_end_with_the_block", || {
+        set_up_loopback(&[]);
+        let state = Arc::new(Folder::new());
+        mount_small_disk(state.path());
+        let mapper = Mapper::with_state(Arc::clone(&state), 0, &["--first-creation=7"]);
+        fill(&state.file("filler"));
+        let mut given = 0;
+        while is_registered(&visit(mapper.port)) {
+            given += 1;
+            assert!(given < 200_000, "more than any block has");
+        }
+        assert!(given > 100, "{given}");
+        mapper.process.line_with("state-failed");
+        let line = "registration-refused reason=\"no creation";
+        mapper.process.line_with(line);
+        assert_eq!(ask(mapper.port, &port_please2("nobody")), b"w\x01");
+        fs::remove_file(state.file("filler")).unwrap();
+        let mut next = None;
+        eventually("there is room", || {
+            sleep(Duration::from_millis(100));
+            next = creation(&visit(mapper.port));
+            next.is_some()
+        });
+        assert_eq!(next, Some(7 + given));
+    });
+}
+
+#[test]
+fn a_full_disk_ends_the_start() {
+    in_namespaces("a_full_disk_ends_the_start", || {
+        let state = Folder::new();
+        mount_small_disk(state.path());
+        fill(&state.file("filler"));
+        let output = run(&["--port", "0", "--state-dir", state.path()]);
+        assert_eq!(output.status.code(), Some(1));
+        let message = text(&output.stderr[..]);
+        assert!(message.contains("cannot write"), "{message}");
+    });
 }
