@@ -7,18 +7,20 @@ HEADER := include/birkenschuh.h
 RATTLE := $(shell find crates \( -path '*/src*' -o -path '*/specs*' -o -path '*/proofs*' \)) crates.txt
 CARGO := cargo --quiet
 
-# Runs rt with a line for each crate; all that it says is in the log, whose end is shown if it fails.
-define prove
-@mkdir -p target
-@rt $(1) 2>&1 | tee target/$(2).log | grep --line-buffered '^rt: ' || { tail -n 40 target/$(2).log; exit 1; }
-endef
+# What a failed rule left behind must not be taken for its result.
+.DELETE_ON_ERROR:
 
-.PHONY: check lib check-host bench
+.PHONY: check check-all lib check-host check-scripts bench
 
-# Every crate proved and every program run (not the edits that must be refused: those are the gate's), then the tests from outside.
+# Every crate proved and every program run (not the edits that must be refused: those are the gate's), then the tests from
+# outside. The last line counts them all.
 check:
-	$(call prove,check,check)
-	@$(MAKE) --no-print-directory check-host
+	@scripts/need rt cc g++ cargo pkg-config
+	@scripts/total $(MAKE) --no-print-directory check-all
+
+check-all:
+	@scripts/prove target/check.log check
+	@$(MAKE) --no-print-directory check-host check-scripts
 
 # Proves the crates below the library and builds it; nothing is done where nothing changed.
 lib: $(LIB)
@@ -26,17 +28,22 @@ lib: $(LIB)
 	@echo "header:  $(CURDIR)/$(HEADER)"
 
 $(LIB): $(RATTLE)
-	$(call prove,staticlib birkenschuh,staticlib)
+	@scripts/prove target/staticlib.log staticlib birkenschuh
 	@touch $@
 
 # The header from C; the wrapper's tests; the library against an implementation of its own, some millions of calls.
 check-host: lib
 	cc -std=c11 -O2 -Wall -Wextra -Werror -Iinclude include/tests/header.c $(LIB) -o target/header
-	target/header
-	cd rust && $(CARGO) test --release --workspace --exclude bench
+	scripts/counted target/header.log target/header
+	cd rust && ../scripts/counted ../target/cargo-test.log $(CARGO) test --release --workspace --exclude bench
+
+# What somebody sees in the first minutes, with tools that only pretend; and what `make install` leaves.
+check-scripts: lib
+	scripts/counted target/first-minutes.log scripts/tests/first-minutes
+	scripts/counted target/install.log scripts/tests/install
 
 # One table: ours beside a peer, same input, same run (docs/PERFORMANCE.md).
 bench: lib
 	cd rust && $(CARGO) run --release -p bench
 
--include rust/epmd/server.mk
+-include rust/epmd/server.mk rust/epmd/dist/install.mk
