@@ -31,10 +31,16 @@ $(LIB): $(RATTLE)
 	@scripts/prove target/staticlib.log staticlib birkenschuh
 	@touch $@
 
-# The header from C; the wrapper's tests; the library against an implementation of its own, some millions of calls.
+# The header from C and C++; the stack that each call needs; the wrapper's tests; the library against an implementation of its own, some
+# millions of calls.
+STRICT := -O2 -pedantic-errors -Wall -Wextra -Werror -Iinclude
 check-host: lib
-	cc -std=c11 -O2 -Wall -Wextra -Werror -Iinclude include/tests/header.c $(LIB) -o target/header
+	cc -std=c11 $(STRICT) include/tests/header.c $(LIB) -o target/header
 	scripts/counted target/header.log target/header
+	g++ -std=c++17 $(STRICT) -x c++ include/tests/header.c -x none $(LIB) -o target/header-c++
+	scripts/counted target/header-c++.log target/header-c++
+	cc -std=c11 $(STRICT) include/tests/stack.c $(LIB) -o target/stack
+	scripts/counted target/stack.log target/stack
 	cd rust && ../scripts/counted ../target/cargo-test.log $(CARGO) test --release --workspace --exclude bench
 
 # What somebody sees in the first minutes, with tools that only pretend; and what `make install` leaves.

@@ -194,12 +194,11 @@ class Script:
 
     def new(self, e, name, flags=GOOD, creation=7):
         if not full_name(name):
-            line, made = "refused 6", Endpoint()
+            line = "refused 6"
         elif not good_flags(flags):
-            line, made = "refused 9", Endpoint()
+            line = "refused 9"
         else:
-            line, made = "made", Endpoint(name, flags, creation)
-        self.ends[e] = made
+            line, self.ends[e] = "made", Endpoint(name, flags, creation)
         self.put(b"n", e, struct.pack(">QI", flags, creation) + name, line)
 
     def start(self, e, name, room=300):
@@ -209,7 +208,7 @@ class Script:
             line = "begun %d %d" % (at, len(written))
         except Refused as r:
             line = "refused %d" % r.number
-        self.put(b"s", e, struct.pack(">H", room) + name, "%s %s 0" % (line, written.hex()))
+        self.put(b"s", e, struct.pack(">H", room) + name, "%s %s" % (line, output(written)))
         return written
 
     def arrive(self, e):
@@ -240,7 +239,7 @@ class Script:
                 end.slots[at] = Slot()
             line = "refused %d" % r.number
         self.put(b"m", e, struct.pack(">HIHHH", at, challenge, room, len(own), len(standard)) + own + standard + frame,
-                 "%s %s 0" % (line, written.hex()))
+                 "%s %s" % (line, output(written)))
         if look:
             self.show(e, at)
         return written
@@ -248,6 +247,11 @@ class Script:
     def show(self, e, at):
         s = self.ends[e].slots[at] if at < 32 else Slot()
         self.put(b"d", e, struct.pack(">H", at), "slot %d %s %d %d %d" % (s.stage, s.name.hex(), s.flags, s.creation, s.challenge))
+
+
+def output(written):
+    """What is written, that nothing behind it is changed, and how many bytes are not as they were lent."""
+    return "%s 0 %d" % (written.hex(), sum(b != 170 for b in written))
 
 
 def first(written):
@@ -287,6 +291,12 @@ def main():
     s.new(0, b"a@b", 0x1000100)
     s.new(0, b"a@b", GOOD | 1 << 33)
     s.new(0, b"a@" + b"b" * 253)
+    # one that is not made leaves what is there
+    s.arrive(0)
+    s.new(0, b"ab")
+    s.show(0, 0)
+    s.new(0, b"a@c", 0)
+    s.show(0, 0)
     # a whole handshake, with one cookie, and with two
     s.new(0, b"a@b")
     s.new(1, b"a@bc", creation=4)
@@ -389,11 +399,36 @@ def main():
     s.arrive(0)
     s.message(0, 1, framed(name_body(b"p@x")))
     s.show(0, 2)
+    # two starts at once, with our attempt in each of its stages; whichever goes on comes to be connected
     for peer in (b"p@x", b"a@x"):
-        stage(STATUS, peer)
-        s.arrive(0)
-        s.message(0, 1, framed(name_body(peer)))
-        s.show(0, 2)
+        for st in STARTED:
+            stage(st, peer)
+            s.arrive(0)
+            w = s.message(0, 1, framed(name_body(peer)), 99)
+            s.show(0, 2)
+            if rest(w):
+                s.message(0, 2, framed(b"a" + digest(77, b"monster")))
+                s.message(0, 1, framed(b"r" + struct.pack(">I", 6) + digest(99, b"monster")))
+            else:
+                if st == STATUS:
+                    s.message(0, 2, status_message(b"ok"), look=False)
+                if st != ACK:
+                    s.message(0, 2, framed(challenge_body(peer)), 77, look=False)
+                s.message(0, 2, framed(b"a" + digest(77, b"monster")))
+            s.show(0, 0)
+    # and between two endpoints: both names cross
+    s.new(0, b"a@b")
+    s.new(1, b"a@bc")
+    names = (s.start(0, b"a@bc"), s.start(1, b"a@b"))
+    s.arrive(0)
+    s.arrive(1)
+    refused = s.message(1, 1, names[0], 11)
+    w = s.message(0, 1, names[1], 12)
+    s.show(0, 0)
+    s.message(0, 0, refused)
+    s.message(1, 0, first(w))
+    r = s.message(1, 0, rest(w), 13)
+    s.message(1, 0, s.message(0, 1, r))
     stage(CONNECTED)
     s.arrive(0)
     s.message(0, 1, framed(name_body(b"p@x")))
@@ -433,6 +468,14 @@ def main():
     s.start(0, b"p@x")
     s.arrive(0)
     s.message(0, 1, framed(name_body(b"p@x", creation=0xFFFFFFFF)), 0xFFFFFFFF)
+    # a call that is cut short: what is not there is 0 or empty; and one that is not whole is not made
+    s.new(0, b"a@b")
+    s.start(0, b"p@x")
+    s.show(0, 0)
+    for op, line in ((b"d", s.lines[-1]), (b"s", "refused 1 " + output(b"")), (b"m", "refused 1 " + output(b"")), (b"n", "refused 6"), (b"c", "closed"), (b"d\0\0", "slot 0  0 0 0")):
+        s.calls.append(struct.pack(">H", len(op)) + op)
+        s.lines.append(line)
+    s.calls.append(b"\0\3d\0")
     here = os.path.dirname(os.path.abspath(__file__))
     with open(os.path.join(here, "stdin"), "wb") as f:
         f.write(b"".join(s.calls))

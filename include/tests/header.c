@@ -1,6 +1,6 @@
 /*
- * The header from C: that its structs are laid out as the library's (a refusal or a count lies right behind a state, so a wrong size
- * shows as a wrong number), 01's worked frames, a whole handshake, empty runs, and that a refusal writes nothing.
+ * The header from C and from C++: that the library is of its version, that structs lie as the library lays them out, 01's worked frames, a
+ * whole handshake, empty runs, that a refusal writes nothing, and that equal states are equal bytes. Compiled as C11 and as C++17.
  */
 #include "birkenschuh.h"
 
@@ -17,9 +17,24 @@ static int failed;
         } \
     } while (0)
 
-#define RUN(text) (const uint8_t *)(text), sizeof(text) - 1
+static const uint8_t *bytes_of(const char *text) { return (const uint8_t *)text; }
+
+#define RUN(text) bytes_of(text), sizeof(text) - 1
 
 static const uint64_t FLAGS = 0x1000104;
+
+/* No byte of a state is padding, and none needs an alignment. */
+static void layout(void) {
+    struct { char before; bks_registry r; } beside_r;
+    struct { char before; bks_endpoint e; } beside_e;
+    CHECK(BKS_MATCHES());
+    CHECK(bks_abi() == 1 && bks_registry_size() == 25670 && bks_endpoint_size() == 9004);
+    CHECK(sizeof(bks_registry) == BKS_REGISTRY_SIZE && sizeof beside_r == BKS_REGISTRY_SIZE + 1);
+    CHECK(sizeof(bks_endpoint) == BKS_ENDPOINT_SIZE && sizeof beside_e == BKS_ENDPOINT_SIZE + 1);
+    CHECK(sizeof(bks_started) == 16 && sizeof(bks_arrived) == 8 && sizeof(bks_answered) == 24 && sizeof(bks_written) == 16);
+    CHECK(sizeof(bks_registration) == 404 && offsetof(bks_registration, port) == 388 && offsetof(bks_registration, creation) == 400);
+    CHECK(sizeof(bks_slot) == 280 && offsetof(bks_slot, flags) == 16 && sizeof(bks_own) == 272 && offsetof(bks_own, name) == 13);
+}
 
 static bool is_reply(bks_written w, const uint8_t *out, const char *bytes, size_t len) {
     return w.refusal == 0 && w.written == len && memcmp(out, bytes, len) == 0;
@@ -55,9 +70,12 @@ static void mapper(void) {
     CHECK(e.connection == 1 && e.creation == 4 && bks_registry_next(&r) == 5);
     CHECK(bks_registry_entry(&r, 1).name_len == 0 && bks_registry_entry(&r, BKS_PLACES).name_len == 0);
 
-    CHECK(!bks_registry_close(&r, 2));
-    CHECK(bks_registry_close(&r, 1));
+    bks_registry other = r;
+    CHECK(!bks_registry_close(&r, 2) && memcmp(&r, &other, sizeof r) == 0);
+    CHECK(bks_registry_close(&r, 1) && memcmp(&r, &other, sizeof r) != 0);
     CHECK(bks_registry_entry(&r, 0).name_len == 0);
+    CHECK(bks_registry_new(&other, 4369, 5) == 0 && memcmp(&r, &other, sizeof r) == 0);
+    CHECK(bks_registry_new(&other, 4370, 0) == BKS_REFUSED_ZERO_CREATION && memcmp(&r, &other, sizeof r) == 0);
 }
 
 static void handshake(void) {
@@ -80,7 +98,7 @@ static void handshake(void) {
     bks_arrived r = bks_endpoint_arrive(&b);
     CHECK(r.refusal == 0 && r.slot == 1);
     bks_answered w = bks_endpoint_message(&b, r.slot, to_b, s.written, 1234, NULL, 0, RUN("ck"), to_a, sizeof to_a);
-    CHECK(w.refusal == 0 && w.stage == BKS_AWAITS_REPLY && w.freed == BKS_SLOTS);
+    CHECK(w.refusal == 0 && w.stage == BKS_AWAITS_REPLY && w.freed == BKS_SLOTS && w.ended == 0);
     CHECK(w.written == 29 && memcmp(to_a, "\x00\x03sok", 5) == 0);
 
     bks_answered x = bks_endpoint_message(&a, s.slot, to_a, 5, 99, NULL, 0, RUN("ck"), to_b, sizeof to_b);
@@ -97,8 +115,28 @@ static void handshake(void) {
     CHECK(q.name_len == 3 && memcmp(q.name, "a@b", 3) == 0 && q.name[3] == 0);
     CHECK(bks_endpoint_slot(&b, BKS_SLOTS).stage == BKS_FREE);
     x = bks_endpoint_message(&a, s.slot, to_a, 19, 0, NULL, 0, RUN("ck"), to_b, sizeof to_b);
-    CHECK(x.refusal == 10 && x.written == 0 && x.stage == 0 && x.freed == BKS_SLOTS);
+    CHECK(x.refusal == 10 && x.written == 0 && x.stage == 0 && x.freed == BKS_SLOTS && x.ended == 0);
     CHECK(bks_endpoint_close(&b, r.slot) == 0 && bks_endpoint_close(&b, r.slot) == 2);
+
+    bks_own own = bks_endpoint_own(&a);
+    CHECK(own.flags == FLAGS && own.creation == 7 && own.name_len == 3 && memcmp(own.name, "a@b", 3) == 0 && own.name[3] == 0);
+}
+
+/* A slot that a message frees is told, answered or refused, and then holds what a free one holds. */
+static void ended(void) {
+    static bks_endpoint e, fresh;
+    uint8_t out[BKS_ENDPOINT_OUTPUT];
+    CHECK(bks_endpoint_new(&e, RUN("a@b"), FLAGS, 7) == 0 && bks_endpoint_new(&fresh, RUN("a@b"), FLAGS, 7) == 0);
+    CHECK(memcmp(&e, &fresh, sizeof e) == 0);
+    CHECK(bks_endpoint_arrive(&e).slot == 0 && memcmp(&e, &fresh, sizeof e) != 0);
+    bks_answered x = bks_endpoint_message(&e, 0, RUN("\x00\x01x"), 1, NULL, 0, RUN("ck"), out, sizeof out);
+    CHECK(x.refusal == BKS_REFUSED_UNKNOWN_TAG && x.ended == 1 && x.freed == BKS_SLOTS && memcmp(&e, &fresh, sizeof e) == 0);
+    x = bks_endpoint_message(&e, 0, RUN("\x00\x01x"), 1, NULL, 0, RUN("ck"), out, sizeof out);
+    CHECK(x.refusal == BKS_REFUSED_SLOT_NOT_TAKEN && x.ended == 0);
+    CHECK(bks_endpoint_arrive(&e).slot == 0);
+    x = bks_endpoint_message(&e, 0, RUN("\x00\x12N\x00\x00\x00\x00\x01\x00\x01\x04\x00\x00\x00\x07\x00\x03" "a@b"), 1, NULL, 0, RUN("ck"), out, sizeof out);
+    CHECK(x.refusal == 0 && x.stage == BKS_FREE && x.ended == 1 && x.written == 14 && memcmp(out, "\x00\x0csnot_allowed", 14) == 0);
+    CHECK(memcmp(&e, &fresh, sizeof e) == 0);
 }
 
 int main(void) {
@@ -106,8 +144,13 @@ int main(void) {
     bks_md5(NULL, 0, digest);
     CHECK(memcmp(digest, "\xd4\x1d\x8c\xd9\x8f\x00\xb2\x04\xe9\x80\x09\x98\xec\xf8\x42\x7e", 16) == 0);
     CHECK(bks_node_name_ok(RUN("ride")) && !bks_node_name_ok(RUN("a@b")) && !bks_node_name_ok(NULL, 0));
+    CHECK(bks_full_name_ok(RUN("a@b")) && !bks_full_name_ok(RUN("ride")) && !bks_full_name_ok(NULL, 0));
+    CHECK(bks_compare(RUN("a@b"), RUN("a@bc")) == -1 && bks_compare(RUN("b@a"), RUN("a@z")) == 1);
+    CHECK(bks_compare(RUN("a@b"), RUN("a@b")) == 0 && bks_compare(RUN("\xff"), RUN("\x01")) == 1 && bks_compare(NULL, 0, RUN("a")) == -1);
+    layout();
     mapper();
     handshake();
+    ended();
     puts(failed ? "header: failed" : "header: ok");
     return failed;
 }

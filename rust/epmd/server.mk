@@ -3,7 +3,7 @@
 #   make program                  prove and build it
 #   make run ARGS='--port 4369'   prove, build and start it
 #   make check-interop            its tests, with real Erlang nodes and against the real epmd
-#   make bench-epmd               look-ups a second, against the real epmd
+#   make bench-epmd               look-ups and registrations a second, against the real epmd
 
 PROGRAM := rust/target/release/birken-epmd
 PROGRAM_SOURCES := $(shell find rust/src rust/epmd/src -name '*.rs') \
@@ -38,4 +38,4 @@ check-interop: need-program lib erlang
 	    --include-ignored --test-threads=1 --nocapture
 
 bench-epmd: need-program lib erlang
-	@cd rust && timeout --kill-after=10 180 cargo bench --quiet -p birken-epmd --bench port_please2
+	@cd rust && timeout --kill-after=10 180 cargo bench --quiet -p birken-epmd --bench epmd

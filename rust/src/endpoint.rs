@@ -1,11 +1,15 @@
 //! The distribution handshake.
 
+use std::collections::BTreeMap;
 use std::fmt;
 
-use crate::{ffi, Refusal, Slot, Stage};
+use crate::{ffi, version, Own, Refusal, Refused, Slot, Stage};
 
 /// The output that [`Endpoint::start`] and [`Endpoint::message`] need.
 pub const ENDPOINT_OUTPUT: usize = 300;
+
+/// How many bytes an endpoint has.
+pub const ENDPOINT_SIZE: usize = size_of::<ffi::bks_endpoint>();
 
 /// How many peers an endpoint can have at a time, connected or on the way there.
 pub const SLOTS: usize = 32;
@@ -43,7 +47,9 @@ pub const SLOTS: usize = 32;
 /// assert_eq!(answered.stage, Stage::Connected);
 /// # Ok::<(), birkenschuh::Refusal>(())
 /// ```
-#[derive(Clone)]
+///
+/// Two endpoints are equal if they hold the same, slot by slot.
+#[derive(Clone, PartialEq, Eq)]
 pub struct Endpoint {
     // Some 9 KB: kept in one place instead of moved about.
     state: Box<ffi::bks_endpoint>,
@@ -53,10 +59,14 @@ impl Endpoint {
     /// An endpoint of the full name `name` ("name@host", 3 to 255 bytes) without peers.
     ///
     /// Refused: [`Refusal::BadName`], [`Refusal::BadFlags`].
+    ///
+    /// # Panics
+    /// If the library that was linked is of another version: see [`check`](crate::check).
     pub fn new(name: &[u8], flags: u64, creation: u32) -> Result<Endpoint, Refusal> {
+        version::demand();
         let mut state = Box::<ffi::bks_endpoint>::new_uninit();
-        // SAFETY: the first pointer is to memory of an endpoint's size and alignment, and `name` is
-        // readable for its length.
+        // SAFETY: the first pointer is to memory of an endpoint's size, and `name` is readable for
+        // its length.
         let refusal = unsafe {
             ffi::bks_endpoint_new(
                 state.as_mut_ptr(),
@@ -117,11 +127,11 @@ impl Endpoint {
     /// which must have [`ENDPOINT_OUTPUT`] bytes. `challenge` is a fresh random number; it is used
     /// where the answer holds a challenge.
     ///
-    /// Refused without a change: [`Refusal::OutputTooShort`], [`Refusal::SlotNotTaken`],
-    /// [`Refusal::AlreadyConnected`], [`Refusal::BadCookie`]. Refused, and then the slot is freed:
-    /// [`Refusal::NotAFrame`], [`Refusal::UnknownTag`], [`Refusal::BadLength`],
+    /// A refusal tells whether the slot was freed. It is kept with [`Refusal::OutputTooShort`],
+    /// [`Refusal::SlotNotTaken`], [`Refusal::AlreadyConnected`] and [`Refusal::BadCookie`], and freed
+    /// with [`Refusal::NotAFrame`], [`Refusal::UnknownTag`], [`Refusal::BadLength`],
     /// [`Refusal::BadName`], [`Refusal::BadFlags`], [`Refusal::UnknownStatus`],
-    /// [`Refusal::WrongDigest`], [`Refusal::Declined`].
+    /// [`Refusal::WrongDigest`] and [`Refusal::Declined`].
     pub fn message(
         &mut self,
         slot: usize,
@@ -129,7 +139,7 @@ impl Endpoint {
         challenge: u32,
         cookies: Cookies<'_>,
         out: &mut [u8],
-    ) -> Result<Answered, Refusal> {
+    ) -> Result<Answered, Refused> {
         // SAFETY: the state is an endpoint, `frame` and both cookies are readable and `out` is
         // writable for its length.
         let answer = unsafe {
@@ -147,7 +157,10 @@ impl Endpoint {
                 out.len(),
             )
         };
-        Refusal::check(answer.refusal)?;
+        Refusal::check(answer.refusal).map_err(|refusal| Refused {
+            refusal,
+            slot_freed: answer.ended != 0,
+        })?;
         let freed = answer.freed as usize;
         Ok(Answered {
             stage: Stage::from_number(answer.stage),
@@ -168,6 +181,34 @@ impl Endpoint {
             challenge: slot.challenge,
         }
     }
+
+    /// The endpoint's own name, flags and creation.
+    pub fn own(&self) -> Own {
+        // SAFETY: the state is an endpoint.
+        let own = unsafe { ffi::bks_endpoint_own(&*self.state) };
+        Own {
+            name: own.name[..usize::from(own.name_len)].to_vec(),
+            flags: own.flags,
+            creation: own.creation,
+        }
+    }
+
+    /// The endpoint as it lies in memory, to be stored or compared. It has no padding, and holds no
+    /// byte of a cookie or of a digest: equal endpoints are equal bytes.
+    pub fn as_bytes(&self) -> &[u8; ENDPOINT_SIZE] {
+        &self.state.bytes
+    }
+
+    /// The endpoint that [`as_bytes`](Endpoint::as_bytes) of this version showed. Other bytes make
+    /// an endpoint that nobody described: its calls are safe, but what 01 promises does not hold.
+    ///
+    /// # Panics
+    /// If the library that was linked is of another version: see [`check`](crate::check).
+    pub fn from_bytes(bytes: &[u8; ENDPOINT_SIZE]) -> Endpoint {
+        version::demand();
+        let state = Box::new(ffi::bks_endpoint { bytes: *bytes });
+        Endpoint { state }
+    }
 }
 
 /// The boundary's slot numbers have 32 bits; a larger one is no slot either way.
@@ -180,7 +221,11 @@ impl fmt::Debug for Endpoint {
         let taken = (0..SLOTS)
             .map(|at| (at, self.slot(at)))
             .filter(|(_, slot)| slot.stage != Stage::Free);
-        f.debug_map().entries(taken).finish()
+        let slots = taken.collect::<BTreeMap<usize, Slot>>();
+        f.debug_struct("Endpoint")
+            .field("own", &self.own())
+            .field("slots", &slots)
+            .finish()
     }
 }
 
@@ -240,7 +285,8 @@ pub struct Started {
 /// ```
 #[derive(Clone, Copy, Debug, PartialEq, Eq)]
 pub struct Answered {
-    /// The slot's new stage. [`Stage::Free`] means that the host closes after sending the output.
+    /// The slot's new stage. [`Stage::Free`] means that the slot is free now, and that the host
+    /// closes its connection after sending the output.
     pub stage: Stage,
     /// Another slot that this message freed: the host closes its connection too.
     pub freed: Option<usize>,

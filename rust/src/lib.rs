@@ -3,7 +3,9 @@
 //!
 //! - [`Registry`] answers requests to the port mapper.
 //! - [`Endpoint`] runs handshakes, as initiator and as acceptor.
-//! - [`md5`] and [`is_node_name`] are the parts below them that a host may want too.
+//! - [`md5`], [`is_node_name`], [`is_full_name`] and [`compare`] are the parts below them that a host
+//!   may want too.
+//! - [`check`] tells whether the library that was linked is of this crate's version.
 //!
 //! The library owns no socket, clock or random number. The host passes in whole frames (with their
 //! two length bytes), connection numbers, challenges and cookies, and lends the output. A call that
@@ -15,8 +17,8 @@
 //!
 //! let mut registry = Registry::new(4369, 1)?;
 //! let mut out = [0; REGISTRY_OUTPUT];
-//! let written = registry.request(9, b"\x00\x01n", &mut out)?;
-//! assert_eq!(out[..written], 4369u32.to_be_bytes()); // no names yet: the port alone
+//! let reply = registry.request(9, b"\x00\x01n", &mut out)?;
+//! assert_eq!(out[..reply.written], 4369u32.to_be_bytes()); // no names yet: the port alone
 //! # Ok::<(), birkenschuh::Refusal>(())
 //! ```
 
@@ -26,12 +28,19 @@ mod endpoint;
 pub mod ffi;
 mod refusal;
 mod registry;
+mod reply;
 mod slot;
+mod text;
+mod version;
 
-pub use endpoint::{Answered, Cookies, Endpoint, Started, ENDPOINT_OUTPUT, SLOTS};
-pub use refusal::Refusal;
-pub use registry::{Registration, Registry, PLACES, REGISTRY_OUTPUT};
-pub use slot::{Slot, Stage};
+use std::cmp::Ordering;
+
+pub use endpoint::{Answered, Cookies, Endpoint, Started, ENDPOINT_OUTPUT, ENDPOINT_SIZE, SLOTS};
+pub use refusal::{Refusal, Refused};
+pub use registry::{Registration, Registry, PLACES, REGISTRY_OUTPUT, REGISTRY_SIZE};
+pub use reply::{Asked, Reply};
+pub use slot::{Own, Slot, Stage};
+pub use version::{check, Mismatch};
 
 /// The MD5 digest of any text (RFC 1321).
 ///
@@ -57,4 +66,28 @@ pub fn md5(text: &[u8]) -> [u8; 16] {
 pub fn is_node_name(name: &[u8]) -> bool {
     // SAFETY: `name` is readable for its length.
     unsafe { ffi::bks_node_name_ok(name.as_ptr(), name.len()) }
+}
+
+/// Whether a start takes `name`: 3 to 255 bytes with exactly one "@", neither first nor last.
+///
+/// ```
+/// assert!(birkenschuh::is_full_name(b"ride@host"));
+/// assert!(!birkenschuh::is_full_name(b"ride"));
+/// ```
+pub fn is_full_name(name: &[u8]) -> bool {
+    // SAFETY: `name` is readable for its length.
+    unsafe { ffi::bks_full_name_ok(name.as_ptr(), name.len()) }
+}
+
+/// How two names compare where both sides start at once: as unsigned bytes, a proper prefix being
+/// less.
+///
+/// ```
+/// use std::cmp::Ordering;
+///
+/// assert_eq!(birkenschuh::compare(b"a@b", b"a@bc"), Ordering::Less);
+/// ```
+pub fn compare(a: &[u8], b: &[u8]) -> Ordering {
+    // SAFETY: both names are readable for their length.
+    unsafe { ffi::bks_compare(a.as_ptr(), a.len(), b.as_ptr(), b.len()) }.cmp(&0)
 }

@@ -5,9 +5,8 @@ use std::fmt;
 
 /// Why a call was refused. The discriminants are the numbers of the specification (01).
 ///
-/// A refused call has written no output. Whether it changed the state is said at each call: the
-/// mapper's refusals change nothing; of the endpoint's, those about the bytes of a message free the
-/// slot that the message came in on.
+/// A refused call has written no output, and nothing else has changed; but a message that is refused
+/// may have freed the slot that it came in on, which [`Refused`] tells.
 ///
 /// ```
 /// use birkenschuh::{Refusal, Registry};
@@ -120,6 +119,46 @@ impl fmt::Display for Refusal {
 }
 
 impl Error for Refusal {}
+
+/// Why a message was refused, and what became of its slot.
+///
+/// ```
+/// use birkenschuh::{Cookies, Endpoint, Refusal, ENDPOINT_OUTPUT};
+///
+/// let mut endpoint = Endpoint::new(b"a@b", 0x100_0104, 7)?;
+/// let slot = endpoint.arrive()?;
+/// let cookies = Cookies { own: b"", standard: b"monster" };
+/// let mut out = [0; ENDPOINT_OUTPUT];
+/// let refused = endpoint.message(slot, b"\x00\x01?", 0, cookies, &mut out).unwrap_err();
+/// assert_eq!(refused.refusal, Refusal::UnknownTag);
+/// assert!(refused.slot_freed); // the host closes the connection, and does not call `close`
+/// # Ok::<(), birkenschuh::Refusal>(())
+/// ```
+#[derive(Clone, Copy, Debug, PartialEq, Eq, Hash)]
+pub struct Refused {
+    /// Why.
+    pub refusal: Refusal,
+    /// Whether the slot is free now by this message. If not, nothing has changed.
+    pub slot_freed: bool,
+}
+
+impl fmt::Display for Refused {
+    fn fmt(&self, f: &mut fmt::Formatter<'_>) -> fmt::Result {
+        self.refusal.fmt(f)
+    }
+}
+
+impl Error for Refused {
+    fn source(&self) -> Option<&(dyn Error + 'static)> {
+        Some(&self.refusal)
+    }
+}
+
+impl From<Refused> for Refusal {
+    fn from(refused: Refused) -> Refusal {
+        refused.refusal
+    }
+}
 
 #[cfg(test)]
 mod tests {

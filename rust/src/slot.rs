@@ -1,4 +1,8 @@
-//! The stages of a handshake, and what a slot records of its peer.
+//! The stages of a handshake, what a slot records of its peer, and what an endpoint is itself.
+
+use std::fmt;
+
+use crate::text::Text;
 
 /// How far a slot's handshake has come.
 ///
@@ -66,7 +70,7 @@ impl Stage {
 /// assert_eq!(endpoint.slot(1), Slot::default());
 /// # Ok::<(), birkenschuh::Refusal>(())
 /// ```
-#[derive(Clone, Debug, Default, PartialEq, Eq)]
+#[derive(Clone, Default, PartialEq, Eq)]
 pub struct Slot {
     /// How far the handshake has come.
     pub stage: Stage,
@@ -78,4 +82,45 @@ pub struct Slot {
     pub creation: u32,
     /// The challenge that we sent.
     pub challenge: u32,
+}
+
+impl fmt::Debug for Slot {
+    fn fmt(&self, f: &mut fmt::Formatter<'_>) -> fmt::Result {
+        f.debug_struct("Slot")
+            .field("stage", &self.stage)
+            .field("name", &Text(&self.name))
+            .field("flags", &format_args!("{:#x}", self.flags))
+            .field("creation", &self.creation)
+            .field("challenge", &self.challenge)
+            .finish()
+    }
+}
+
+/// What an endpoint was made with.
+///
+/// ```
+/// use birkenschuh::Endpoint;
+///
+/// let own = Endpoint::new(b"a@b", 0x100_0104, 7)?.own();
+/// assert_eq!(format!("{own:?}"), r#"Own { name: "a@b", flags: 0x1000104, creation: 7 }"#);
+/// # Ok::<(), birkenschuh::Refusal>(())
+/// ```
+#[derive(Clone, PartialEq, Eq)]
+pub struct Own {
+    /// The full name.
+    pub name: Vec<u8>,
+    /// The flags.
+    pub flags: u64,
+    /// The creation.
+    pub creation: u32,
+}
+
+impl fmt::Debug for Own {
+    fn fmt(&self, f: &mut fmt::Formatter<'_>) -> fmt::Result {
+        f.debug_struct("Own")
+            .field("name", &Text(&self.name))
+            .field("flags", &format_args!("{:#x}", self.flags))
+            .field("creation", &self.creation)
+            .finish()
+    }
 }

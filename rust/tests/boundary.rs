@@ -1,12 +1,15 @@
-//! The boundary itself: the sizes of the opaque structs, null pointers, and numbers that the
-//! wrapper has to narrow.
+//! The boundary itself: the sizes of the states, states as bytes, null pointers, numbers that the
+//! wrapper has to narrow, and what a log would show.
 
 mod common;
 
 use std::ptr::{null, null_mut};
 
 use birkenschuh::ffi::{self, bks_endpoint, bks_registry};
-use birkenschuh::{Cookies, Endpoint, Refusal, Registry, Slot, ENDPOINT_OUTPUT, REGISTRY_OUTPUT};
+use birkenschuh::{
+    Cookies, Endpoint, Refusal, Refused, Registry, Slot, ENDPOINT_OUTPUT, ENDPOINT_SIZE,
+    REGISTRY_OUTPUT, REGISTRY_SIZE,
+};
 use common::frames::{Alive2, GOOD_FLAGS};
 
 /// A registry made in memory of the host's choosing.
@@ -49,7 +52,8 @@ fn null_is_an_empty_run() {
         ffi::bks_md5(null(), 0, digest.as_mut_ptr());
         assert_eq!(digest[..16], model::md5(b""));
         assert_eq!(digest[16], 0xa5, "a digest has sixteen bytes");
-        assert!(!ffi::bks_node_name_ok(null(), 0));
+        assert!(!ffi::bks_node_name_ok(null(), 0) && !ffi::bks_full_name_ok(null(), 0));
+        assert_eq!(ffi::bks_compare(null(), 0, null(), 0), 0);
     }
     assert!(out.iter().all(|byte| *byte == 0xa5));
 }
@@ -148,7 +152,11 @@ fn numbers_are_not_cut() {
         assert_eq!(endpoint.slot(slot), Slot::default());
         assert_eq!(endpoint.close(slot), Err(Refusal::SlotNotTaken));
         let answer = endpoint.message(slot, b"", 0, cookies, &mut out[..ENDPOINT_OUTPUT]);
-        assert_eq!(answer, Err(Refusal::SlotNotTaken));
+        let refused = Refused {
+            refusal: Refusal::SlotNotTaken,
+            slot_freed: false,
+        };
+        assert_eq!(answer, Err(refused));
     }
     assert_ne!(endpoint.slot(0), Slot::default());
 }
@@ -197,77 +205,110 @@ fn states_can_be_sent() {
     is_send::<Endpoint>();
 }
 
-/// How much memory the library takes for a state, seen from the library's side.
-///
-/// A struct of this size is returned through a pointer that goes before the other arguments (System
-/// V ABI, 3.2.3), so the same function can be declared with that pointer, and lent memory that the
-/// test has patterned.
-#[cfg(all(target_arch = "x86_64", unix))]
+/// How much memory the library takes for a state, seen from the library's side: it writes all of it
+/// in making, and nothing beside it, at any alignment.
 mod sizes {
     use super::*;
 
     const GUARD: usize = 256;
 
-    #[allow(clashing_extern_declarations)]
-    extern "C" {
-        #[link_name = "bks_registry_new_value"]
-        fn registry_new(result: *mut u8, port: u16, first_creation: u32) -> *mut u8;
-        #[link_name = "bks_endpoint_new_value"]
-        fn endpoint_new(
-            result: *mut u8,
-            name: *const u8,
-            name_len: usize,
-            flags: u64,
-            creation: u32,
-        ) -> *mut u8;
-    }
-
-    /// Which bytes `write` has written: those that differ from one pattern or the other. The memory
-    /// is aligned as a state is and, at least once, no better.
-    fn written(length: usize, align: usize, write: impl Fn(*mut u8)) -> Vec<usize> {
+    /// Which bytes `write` has written: those that differ from one pattern or the other.
+    fn written(length: usize, write: impl Fn(*mut u8)) -> Vec<usize> {
         let patterned = |pattern: u8, beside: usize| {
-            let mut memory = vec![pattern; length + GUARD + 4 * align];
-            let at = memory.as_ptr().align_offset(2 * align) + beside;
+            let mut memory = vec![pattern; length + GUARD + 16];
+            let at = memory.as_ptr().align_offset(8) + beside;
             write(memory[at..].as_mut_ptr());
             memory.split_off(at)
         };
-        let (first, second) = (patterned(0xa5, 0), patterned(0x5a, align));
+        let (first, second) = (patterned(0xa5, 0), patterned(0x5a, 1));
         let is_written = |i: &usize| first[*i] != 0xa5 || second[*i] != 0x5a;
         (0..length + GUARD).filter(is_written).collect()
     }
 
-    /// The state and the refusal behind it are written, up to a little padding, and nothing more.
-    fn check(written: &[usize], length: usize) {
-        assert_eq!(
-            written.last(),
-            Some(&(length - 1)),
-            "the refusal ends the result"
-        );
-        assert!(
-            length - written.len() <= 2,
-            "{} of {length} bytes written",
-            written.len()
-        );
-    }
-
-    /// The result is the state with the refusal behind it, which must lie where the wrapper reads it.
     #[test]
     fn registry() {
-        let (length, align) = (size_of::<bks_registry>() + 4, align_of::<bks_registry>());
-        // SAFETY: the memory has room for the state, the refusal and more.
-        let written = written(length, align, |memory| unsafe {
-            registry_new(memory, 4369, 0x0102_0304);
+        // SAFETY: the memory has room for the state and more.
+        let written = written(REGISTRY_SIZE, |memory| unsafe {
+            assert_eq!(ffi::bks_registry_new(memory.cast(), 4369, 0x0102_0304), 0);
         });
-        check(&written, length);
+        assert_eq!(written, (0..REGISTRY_SIZE).collect::<Vec<usize>>());
     }
 
     #[test]
     fn endpoint() {
-        let (length, align) = (size_of::<bks_endpoint>() + 4, align_of::<bks_endpoint>());
-        // SAFETY: the memory has room for the state, the refusal and more.
-        let written = written(length, align, |memory| unsafe {
-            endpoint_new(memory, b"a@b".as_ptr(), 3, GOOD_FLAGS, 0x0102_0304);
+        // SAFETY: the memory has room for the state and more.
+        let written = written(ENDPOINT_SIZE, |memory| unsafe {
+            let name = b"a@b".as_ptr();
+            assert_eq!(
+                ffi::bks_endpoint_new(memory.cast(), name, 3, GOOD_FLAGS, 0x0102_0304),
+                0
+            );
         });
-        check(&written, length);
+        assert_eq!(written, (0..ENDPOINT_SIZE).collect::<Vec<usize>>());
     }
+
+    #[test]
+    fn as_the_library_tells_them() {
+        assert_eq!(birkenschuh::check(), Ok(()));
+        assert_eq!(
+            (align_of::<bks_registry>(), align_of::<bks_endpoint>()),
+            (1, 1)
+        );
+    }
+}
+
+/// A state is its bytes: stored and fetched it goes on as before, and equal states are equal bytes.
+#[test]
+fn states_are_bytes() {
+    let mut out = [0; REGISTRY_OUTPUT];
+    let mut registry = Registry::new(4369, 1).unwrap();
+    registry
+        .request(1, &Alive2::of(b"name").frame(), &mut out)
+        .unwrap();
+    let mut fetched = Registry::from_bytes(registry.as_bytes());
+    assert_eq!(fetched, registry);
+    assert!(fetched.close(1));
+    assert_ne!(fetched, registry);
+    assert!(registry.close(1));
+    assert_eq!(fetched.as_bytes(), registry.as_bytes());
+    assert_eq!(registry, Registry::new(4369, 2).unwrap());
+
+    let mut endpoint = Endpoint::new(b"a@b", GOOD_FLAGS, 1).unwrap();
+    let slot = endpoint.start(b"c@d", &mut out).unwrap().slot;
+    let mut fetched = Endpoint::from_bytes(endpoint.as_bytes());
+    assert_eq!(fetched, endpoint);
+    fetched.close(slot).unwrap();
+    assert_ne!(fetched, endpoint);
+    assert_eq!(fetched, Endpoint::new(b"a@b", GOOD_FLAGS, 1).unwrap());
+}
+
+/// What a log would show: names as text, and no cookie.
+#[test]
+fn debug_shows_names_as_text() {
+    let mut out = [0; REGISTRY_OUTPUT];
+    let mut registry = Registry::new(4369, 1).unwrap();
+    let request = Alive2 {
+        extra: b"\xff",
+        ..Alive2::of("fähre".as_bytes())
+    };
+    registry.request(1, &request.frame(), &mut out).unwrap();
+    let shown = format!("{registry:?}");
+    assert!(shown.contains("name: \"fähre\""), "{shown}");
+    assert!(shown.contains(r#"extra: b"\xff""#), "{shown}");
+    let mut endpoint = Endpoint::new(b"a@b", GOOD_FLAGS, 1).unwrap();
+    endpoint.start(b"c@d", &mut out).unwrap();
+    let cookies = Cookies {
+        own: b"monster",
+        standard: b"monster",
+    };
+    endpoint
+        .message(0, b"\x00\x03sok", 0, cookies, &mut out)
+        .unwrap();
+    let shown = format!("{endpoint:?} {cookies:?}");
+    let (own, slots) = shown.split_once("slots").unwrap();
+    assert!(
+        own.contains("name: \"a@b\"") && slots.contains("name: \"c@d\""),
+        "{shown}"
+    );
+    assert!(!shown.contains("monster"), "{shown}");
 }

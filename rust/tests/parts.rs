@@ -1,9 +1,10 @@
 //! The parts below mapper and handshake against outside truths: MD5 against RFC 1321's suite and
-//! the model's own, the name rule against the standard library's UTF-8.
+//! the model's own, the name rules against the standard library's UTF-8 and the model's, the order
+//! of names against that of slices.
 
 mod common;
 
-use birkenschuh::{is_node_name, md5};
+use birkenschuh::{compare, is_full_name, is_node_name, md5};
 use common::rng::{seed, Rng};
 use common::to_hex;
 
@@ -100,4 +101,51 @@ fn long_names() {
         }
     }
     assert!(is_node_name(&[b'n'; 255]) && !is_node_name(&[b'n'; 256]));
+}
+
+/// All short runs of a few bytes, and lengths around the rule's borders.
+#[test]
+fn full_names() {
+    let check = |name: &[u8]| {
+        let expected = model::is_full_name(name);
+        assert_eq!(is_full_name(name), expected, "{}", name.escape_ascii());
+    };
+    let mut runs = vec![Vec::new()];
+    for _ in 0..6 {
+        let longer = |run: &Vec<u8>| [0, b'@', 0xff].map(|byte| [&run[..], &[byte]].concat());
+        runs = runs.iter().flat_map(longer).collect();
+        runs.iter().for_each(|run| check(run));
+    }
+    for length in 250..=260 {
+        for at in [0, 1, length / 2, length - 2, length - 1] {
+            let mut name = vec![b'n'; length];
+            name[at] = b'@';
+            check(&name);
+        }
+    }
+}
+
+/// Pairs of runs that differ early, late, only in length, or not at all.
+#[test]
+fn order_of_names() {
+    let mut rng = Rng(seed());
+    for _ in 0..100_000 {
+        let mut letters = |length| -> Vec<u8> {
+            let bytes = rng.bytes(length);
+            bytes
+                .iter()
+                .map(|byte| [0, 127, 128, 255][usize::from(byte % 4)])
+                .collect()
+        };
+        let (shared, a, b) = (letters(3), letters(2), letters(2));
+        for (a, b) in [
+            (&a[..], &b[..]),
+            (&a[..1], &a[..]),
+            (&a[..], &[]),
+            (&a[..], &a[..]),
+        ] {
+            let (a, b) = ([&shared[..], a].concat(), [&shared[..], b].concat());
+            assert_eq!(compare(&a, &b), a.cmp(&b), "{a:?} and {b:?}");
+        }
+    }
 }

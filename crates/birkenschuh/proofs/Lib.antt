@@ -1,1 +1,1 @@
-pub mod RegistryLaws
+pub mod Crossing

@@ -1,48 +1,85 @@
--- What the endpoint's exports give: the numbers of 01 for each answer, beside the endpoint. A refusal is its number, and 0 is none; where no other
--- slot was freed, `freed` is 32; what an answer does not tell is 0.
+-- What the endpoint's exports do: 01's numbers for what they tell (handshake_rules/specs/Answers), and the endpoint in the host's bytes.
 use Prim.Native.Nat.{ℕ}
+use mathlib.Core.Path.{_≡_}
+use mathlib.Core.Bool.{Bool, cond}
+use mathlib.Core.List.{List}
 use lib.ListN.{length}
+use lib.Dec.{eqb, ltb}
+use Rattle.wire.specs.Output.{written}
+use Rattle.names.specs.declared.held.Name.{Name}
 use Rattle.names.specs.Held.{nameBytes}
-use Rattle.handshake.specs.declared.endpoint.Endpoint.{Endpoint}
-use Rattle.handshake.specs.declared.endpoint.Slot.{Slot}
-use Rattle.handshake.specs.declared.endpoint.Freed.{Freed}
-use Rattle.handshake.specs.declared.endpoint.Freed.the-variants.{Nothing, At}
-use Rattle.handshake.specs.declared.endpoint.Making.{Making}
-use Rattle.handshake.specs.declared.endpoint.Making.the-variants.{Ready, NotMade}
-use Rattle.handshake.specs.declared.endpoint.Made.{Made}
-use Rattle.handshake.specs.declared.endpoint.Answer.{Answer}
-use Rattle.handshake.specs.declared.endpoint.Answer.the-variants.{Refused, Begun, Arrived, Closed, Answered}
-use Rattle.handshake.specs.declared.endpoint.Told.{Told}
-use Rattle.handshake.specs.Refusals.{refusalNumber}
-use Rattle.handshake.specs.Endpoint.{stageNumber}
-use Rattle.birkenschuh.specs.declared.endpoint.EndpointMade.{EndpointMade}
-use Rattle.birkenschuh.specs.declared.endpoint.Numbers.{Numbers}
-use Rattle.birkenschuh.specs.declared.endpoint.EndpointTold.{EndpointTold}
+use Rattle.handshake_rules.specs.State.{Told, Made}
+use Rattle.handshake_rules.specs.declared.endpoint.Slot.{Slot}
+use Rattle.handshake_rules.specs.declared.endpoint.Freed.{Freed}
+use Rattle.handshake_rules.specs.declared.endpoint.Answer.{Answer}
+use Rattle.handshake_rules.specs.Answers as rules
+use Rattle.handshake_rules.specs.Endpoint.{stageNumber}
+use Rattle.handshake_rules.specs.Plans.{Done}
+use Rattle.handshake_state.specs.Bytes.{endpointOf, ifMade}
+use Rattle.birkenschuh.specs.declared.numbers.Numbers.{Numbers}
+use Rattle.birkenschuh.specs.declared.endpoint.Started as s
+use Rattle.birkenschuh.specs.declared.endpoint.Arrived as a
+use Rattle.birkenschuh.specs.declared.endpoint.Answered as m
 use Rattle.birkenschuh.specs.declared.endpoint.SlotSeen.{SlotSeen}
+use Rattle.birkenschuh.specs.declared.endpoint.Own.{Own}
 
-abbrev pub making : Endpoint → Making → EndpointMade
-making g Ready = record { endpoint = g; refusal = 0 }
-making g (NotMade r) = record { endpoint = g; refusal = refusalNumber r }
+-- ---- numbers that cross
 
-abbrev pub madeOf : Made → EndpointMade
-madeOf m = making (m .endpoint) (m .making)
+abbrev pub flag : Bool → ℕ
+flag b = cond b 1 0
 
-abbrev pub freedNumber : Freed → ℕ
-freedNumber Nothing = 32
-freedNumber (At s) = s
+-- a slot's number has 32 bits; from 32 on there is no slot, and 32 says so
+abbrev pub slotNumber : ℕ → ℕ
+slotNumber s = cond (ltb s rules.noSlot) s rules.noSlot
 
-abbrev pub tells : ℕ → ℕ → ℕ → ℕ → ℕ → Numbers
-tells refusal stage slot freed written = record { refusal = refusal; stage = stage; slot = slot; freed = freed; written = written }
+abbrev pub crossing : rules.Numbers → Bool → Numbers
+crossing n ended =
+    record {
+      refusal = n .refusal;
+      slot = slotNumber (n .slot);
+      stage = n .stage;
+      freed = slotNumber (n .freed);
+      ended = flag ended;
+      written = n .written;
+    }
 
-abbrev pub numbersOf : Answer → Numbers
-numbersOf (Refused r) = tells (refusalNumber r) 0 0 32 0
-numbersOf (Begun s n) = tells 0 0 s 32 n
-numbersOf (Arrived s) = tells 0 0 s 32 0
-numbersOf Closed = tells 0 0 0 32 0
-numbersOf (Answered st o n) = tells 0 (stageNumber st) 0 (freedNumber o) n
+unfoldable pub toldOf : Answer → Numbers
+toldOf x = crossing (rules.numbersOf x) (rules.endsSlot x)
 
-abbrev pub toldOf : Told → EndpointTold
-toldOf t = record { endpoint = t .endpoint; numbers = numbersOf (t .answer) }
+-- of these, what each call tells
+abbrev pub startedIn : Numbers → s.Started
+startedIn n = record { refusal = n .refusal; slot = n .slot; written = n .written }
+
+abbrev pub arrivedIn : Numbers → a.Arrived
+arrivedIn n = record { refusal = n .refusal; slot = n .slot }
+
+abbrev pub refusalIn : Numbers → ℕ
+refusalIn n = n .refusal
+
+abbrev pub answeredIn : Numbers → m.Answered
+answeredIn n = record { refusal = n .refusal; stage = n .stage; freed = n .freed; ended = n .ended; written = n .written }
+
+-- an answer to a message, by the number of its stage
+abbrev pub answers : ℕ → Freed → ℕ → Numbers
+answers stage other n = crossing (rules.tells rules.unrefused 0 stage (rules.freedNumber other) n) (eqb stage 0)
+
+-- ---- what a call did: r is what it told, `after` the bytes that it left of the endpoint, `out` and `left` the output before it and after it
+
+pub record Tells {N : Type 0} (of : Numbers → N) (t : Told) (r : N) (after : List ℕ) : Type 0 where
+  pub told : r ≡ of (toldOf (t .answer))
+  pub endpoint : endpointOf after ≡ t .endpoint
+
+pub record Comes {N : Type 0} (of : Numbers → N) (d : Done) (r : N) (after out left : List ℕ) : Type 0 where
+  pub told : r ≡ of (toldOf (d .told .answer))
+  pub endpoint : endpointOf after ≡ d .told .endpoint
+  pub output : left ≡ written (d .bytes) out
+
+-- where making refuses, the bytes hold what they held before
+pub record Makes (m : Made) (r : ℕ) (before after : List ℕ) : Type 0 where
+  pub told : r ≡ rules.makingNumber (m .making)
+  pub endpoint : endpointOf after ≡ ifMade (m .making) (m .endpoint) (endpointOf before)
+
+-- ---- what a host may see
 
 abbrev pub seenOf : Slot → SlotSeen
 seenOf s =
@@ -54,3 +91,6 @@ seenOf s =
       len = length (nameBytes (s .name));
       name = s .name .bytes;
     }
+
+abbrev pub ownOf : Name → ℕ → ℕ → Own
+ownOf n f c = record { flags = f; creation = c; len = length (nameBytes n); name = n .bytes }

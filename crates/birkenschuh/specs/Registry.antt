@@ -1,22 +1,21 @@
--- What the mapper's exports give: the numbers of 01 for each answer, beside the registry. A refusal is its number, and 0 is none.
+-- What the mapper's exports do: 01's numbers for what they tell (epmd_rules/specs/Answers), and the registry in the host's bytes.
 use Prim.Native.Nat.{ℕ}
-use Rattle.epmd.specs.declared.registry.Registry.{Registry}
-use Rattle.epmd.specs.declared.registry.Making.{Making}
-use Rattle.epmd.specs.declared.registry.Making.the-variants.{Ready, Refused}
-use Rattle.epmd.specs.declared.registry.Made.{Made}
-use Rattle.epmd.specs.declared.serve.Answer.{Answer}
-use Rattle.epmd.specs.declared.serve.Answer.the-variants as answer
-use Rattle.epmd.specs.Requests.{refusalNumber}
-use Rattle.birkenschuh.specs.declared.registry.RegistryMade.{RegistryMade}
-use Rattle.birkenschuh.specs.declared.registry.Written.{Written}
+use mathlib.Core.Path.{_≡_}
+use mathlib.Core.List.{List}
+use Rattle.wire.specs.Output.{written}
+use Rattle.epmd_rules.specs.State.{Made}
+use Rattle.epmd_rules.specs.declared.answer.Numbers.{Numbers}
+use Rattle.epmd_rules.specs.Answers.{numbersOf, makingNumber}
+use Rattle.epmd_rules.specs.Serve.{Outcome}
+use Rattle.epmd_state.specs.Bytes.{registryOf, ifMade}
 
-abbrev pub making : Registry → Making → RegistryMade
-making g Ready = record { registry = g; refusal = 0 }
-making g (Refused r) = record { registry = g; refusal = refusalNumber r }
+-- making tells r, and leaves a registry in the host's bytes; where it refuses, they hold what they held before
+pub record Makes (m : Made) (r : ℕ) (before after : List ℕ) : Type 0 where
+  pub told : r ≡ makingNumber (m .making)
+  pub registry : registryOf after ≡ ifMade (m .making) (m .registry) (registryOf before)
 
-abbrev pub madeOf : Made → RegistryMade
-madeOf m = making (m .registry) (m .making)
-
-abbrev pub writtenOf : Answer → Written
-writtenOf (answer.Written n) = record { refusal = 0; written = n }
-writtenOf (answer.Refused r) = record { refusal = refusalNumber r; written = 0 }
+-- a request tells r, leaves these bytes of the registry, and of the output
+pub record Serves (o : Outcome) (r : Numbers) (after out left : List ℕ) : Type 0 where
+  pub told : r ≡ numbersOf (o .answer)
+  pub registry : registryOf after ≡ o .registry
+  pub output : left ≡ written (o .bytes) out

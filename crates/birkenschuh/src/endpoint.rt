@@ -1,41 +1,37 @@
-// The handshake endpoint's calls.
+// The handshake endpoint's calls, on an endpoint that the host lends.
 ghost use mathlib.Core.Path.{_≡_};
 ghost use lib.ListN.{length};
-ghost use Rattle.wire.specs.Output.{written};
-ghost use Rattle.handshake.specs.Endpoint.{slotAt};
-ghost use Rattle.handshake.specs.Cookie.{cookies};
-ghost use Rattle.handshake.specs.Calls.{newOf, startOf, arriveOf, closeOf, messageOf};
-ghost use Rattle.birkenschuh.specs.Endpoint.{madeOf, freedNumber, tells, numbersOf, toldOf, seenOf};
-use handshake::Answer;
-use handshake::Endpoint;
-use handshake::Freed;
-use handshake::Made;
-use handshake::Making;
-use handshake::Slot;
-use handshake::Told;
+ghost use Rattle.handshake_rules.specs.Endpoint.{slotAt};
+ghost use Rattle.handshake_rules.specs.Cookie.{cookies};
+ghost use Rattle.handshake_rules.specs.Calls.{newOf, startOf, arriveOf, closeOf, messageOf};
+ghost use Rattle.handshake_state.specs.Bytes.{endpointOf};
+ghost use Rattle.birkenschuh.specs.Endpoint.{Makes, Comes, Tells, startedIn, arrivedIn, refusalIn, answeredIn, seenOf, ownOf};
+use crate::numbers::making_number;
+use crate::numbers::numbers_of;
+use handshake::SIZE;
+use handshake_rules::endpoint::Slot;
 use names::Name;
 
-// An endpoint, and why it was refused.
 #[repr(C)]
-pub struct EndpointMade {
-    pub endpoint: Endpoint,
+pub struct Started {
     pub refusal: u32,
-}
-
-// What a call tells. What it does not tell is 0; `freed` is 32 where no other slot was freed.
-#[repr(C)]
-pub struct Numbers {
-    pub refusal: u32,
-    pub stage: u32,
-    pub slot: usize,
-    pub freed: usize,
+    pub slot: u32,
     pub written: usize,
 }
 
 #[repr(C)]
-pub struct EndpointTold {
-    pub endpoint: Endpoint,
-    pub numbers: Numbers,
+pub struct Arrived {
+    pub refusal: u32,
+    pub slot: u32,
+}
+
+#[repr(C)]
+pub struct Answered {
+    pub refusal: u32,
+    pub stage: u32,
+    pub freed: u32,
+    pub ended: u32,
+    pub written: usize,
 }
 
 // A slot's record; the name's bytes are zero behind its length.
@@ -49,69 +45,86 @@ pub struct SlotSeen {
     pub name: [u8; 255],
 }
 
-fn made(m: Made) -> EndpointMade
-    ensures { λ r. ⌜ r ≡ madeOf m ⌝ }
-{
-    let endpoint = m.endpoint;
-    let making = m.making;
-    match making {
-        Making::Ready => EndpointMade {
-            endpoint,
-            refusal: 0,
-        },
-        Making::NotMade(why) => EndpointMade {
-            endpoint,
-            refusal: why.number() as u32,
-        },
-    }
+// What an endpoint tells of itself; the name's bytes are zero behind its length.
+#[repr(C)]
+pub struct Own {
+    pub flags: u64,
+    pub creation: u32,
+    pub len: u8,
+    pub name: [u8; 255],
 }
 
-fn freed_number(f: Freed) -> usize
-    ensures { λ r. ⌜ r ≡ freedNumber f ⌝ }
+#[no_mangle]
+pub extern "C" fn bks_endpoint_new(
+    e: &mut [u8; SIZE],
+    name: &[u8],
+    flags: u64,
+    creation: u32,
+) -> u32
+    ensures { λ r. ⌜ Makes (newOf (now (name .entry)) flags creation) r (now (e .entry)) (now (e .exit)) ⌝ }
 {
-    match f {
-        Freed::Nothing => 32,
-        Freed::At(slot) => slot,
-    }
+    let making = handshake::calls::make(e, name, flags, creation);
+    making_number(making)
 }
 
-fn tell(refusal: u32, stage: u32, slot: usize, freed: usize, written: usize) -> Numbers
-    ensures { λ r. ⌜ r ≡ tells refusal stage slot freed written ⌝ }
+// Starts towards a full name.
+#[no_mangle]
+pub extern "C" fn bks_endpoint_start(e: &mut [u8; SIZE], name: &[u8], out: &mut [u8]) -> Started
+    ensures { λ r. ⌜ Comes startedIn (startOf (endpointOf (now (e .entry))) (now (name .entry)) (length (now (out .entry)))) r (now (e .exit)) (now (out .entry)) (now (out .exit)) ⌝ }
 {
-    Numbers {
-        refusal,
-        stage,
-        slot,
-        freed,
-        written,
-    }
-}
-
-fn numbers_of(a: Answer) -> Numbers
-    ensures { λ r. ⌜ r ≡ numbersOf a ⌝ }
-{
-    match a {
-        Answer::Refused(why) => tell(why.number() as u32, 0, 0, 32, 0),
-        Answer::Begun { slot, count } => tell(0, 0, slot, 32, count),
-        Answer::Arrived { slot } => tell(0, 0, slot, 32, 0),
-        Answer::Closed => tell(0, 0, 0, 32, 0),
-        Answer::Answered {
-            stage,
-            freed,
-            count,
-        } => tell(0, stage.number() as u32, 0, freed_number(freed), count),
-    }
-}
-
-fn told(t: Told) -> EndpointTold
-    ensures { λ r. ⌜ r ≡ toldOf t ⌝ }
-{
-    let endpoint = t.endpoint;
-    let answer = t.answer;
+    let answer = handshake::calls::start(e, name, out);
     let n = numbers_of(answer);
-    EndpointTold {
-        endpoint,
-        numbers: n,
+    Started {
+        refusal: n.refusal,
+        slot: n.slot,
+        written: n.written,
+    }
+}
+
+// A connection has come in.
+#[no_mangle]
+pub extern "C" fn bks_endpoint_arrive(e: &mut [u8; SIZE]) -> Arrived
+    ensures { λ r. ⌜ Tells arrivedIn (arriveOf (endpointOf (now (e .entry)))) r (now (e .exit)) ⌝ }
+{
+    let answer = handshake::calls::arrive(e);
+    let n = numbers_of(answer);
+    Arrived {
+        refusal: n.refusal,
+        slot: n.slot,
+    }
+}
+
+// Frees a taken slot.
+#[no_mangle]
+pub extern "C" fn bks_endpoint_close(e: &mut [u8; SIZE], slot: u32) -> u32
+    ensures { λ r. ⌜ Tells refusalIn (closeOf (endpointOf (now (e .entry))) slot) r (now (e .exit)) ⌝ }
+{
+    let answer = handshake::calls::close(e, slot as usize);
+    let n = numbers_of(answer);
+    n.refusal
+}
+
+// One frame on a slot.
+#[no_mangle]
+pub extern "C" fn bks_endpoint_message<'a>(
+    e: &mut [u8; SIZE],
+    slot: u32,
+    frame: &[u8],
+    challenge: u32,
+    own: &'a [u8],
+    standard: &'a [u8],
+    out: &mut [u8],
+) -> Answered
+    ensures { λ r. ⌜ Comes answeredIn (messageOf (cookies (now (own .entry)) (now (standard .entry))) (endpointOf (now (e .entry))) slot (now (frame .entry)) challenge (length (now (out .entry)))) r (now (e .exit)) (now (out .entry)) (now (out .exit)) ⌝ }
+{
+    let answer = handshake::calls::message(e, slot as usize, frame, challenge, own, standard, out);
+    let n = numbers_of(answer);
+    Answered {
+        refusal: n.refusal,
+        stage: n.stage,
+        freed: n.freed,
+        ended: n.ended,
+        written: n.written,
     }
 }
 
@@ -130,58 +143,32 @@ fn seen(s: Slot) -> SlotSeen
     }
 }
 
+// A slot's record; from 32 on that of a free one.
 #[no_mangle]
-pub extern "C" fn bks_endpoint_new_value(name: &[u8], flags: u64, creation: u32) -> EndpointMade
-    ensures { λ r. ⌜ r ≡ madeOf (newOf (now (name .entry)) flags creation) ⌝ }
+pub extern "C" fn bks_endpoint_slot(e: &[u8; SIZE], slot: u32) -> SlotSeen
+    ensures { λ r. ⌜ r ≡ seenOf (slotAt (endpointOf (now (e .entry))) slot) ⌝ }
 {
-    made(Endpoint::new(name, flags, creation))
+    seen(handshake::calls::slot(e, slot as usize))
 }
 
-#[no_mangle]
-pub extern "C" fn bks_endpoint_start_value(
-    endpoint: Endpoint,
-    name: &[u8],
-    out: &mut [u8],
-) -> EndpointTold
-    ensures { λ r. ⌜ r ≡ toldOf (startOf endpoint (now (name .entry)) (length (now (out .entry))) .told) ⌝ }
-    ensures { λ _. ⌜ now (out .exit) ≡ written (startOf endpoint (now (name .entry)) (length (now (out .entry))) .bytes) (now (out .entry)) ⌝ }
+fn own_seen(name: Name, flags: u64, creation: u32) -> Own
+    ensures { λ r. ⌜ r ≡ ownOf name flags creation ⌝ }
 {
-    told(endpoint.start(name, out))
+    Own {
+        flags,
+        creation,
+        len: name.size() as u8,
+        name: name.array(),
+    }
 }
 
+// The endpoint's own name, flags and creation.
 #[no_mangle]
-pub extern "C" fn bks_endpoint_arrive_value(endpoint: Endpoint) -> EndpointTold
-    ensures { λ r. ⌜ r ≡ toldOf (arriveOf endpoint) ⌝ }
+pub extern "C" fn bks_endpoint_own(e: &[u8; SIZE]) -> Own
+    ensures { λ r. ⌜ r ≡ ownOf (endpointOf (now (e .entry)) .name) (endpointOf (now (e .entry)) .flags) (endpointOf (now (e .entry)) .creation) ⌝ }
 {
-    told(endpoint.arrive())
-}
-
-#[no_mangle]
-pub extern "C" fn bks_endpoint_close_value(endpoint: Endpoint, slot: u32) -> EndpointTold
-    ensures { λ r. ⌜ r ≡ toldOf (closeOf endpoint slot) ⌝ }
-{
-    told(endpoint.close(slot as usize))
-}
-
-#[no_mangle]
-pub extern "C" fn bks_endpoint_message_value<'a>(
-    endpoint: Endpoint,
-    slot: u32,
-    frame: &[u8],
-    challenge: u32,
-    own: &'a [u8],
-    standard: &'a [u8],
-    out: &mut [u8],
-) -> EndpointTold
-    ensures { λ r. ⌜ r ≡ toldOf (messageOf (cookies (now (own .entry)) (now (standard .entry))) endpoint slot (now (frame .entry)) challenge (length (now (out .entry))) .told) ⌝ }
-    ensures { λ _. ⌜ now (out .exit) ≡ written (messageOf (cookies (now (own .entry)) (now (standard .entry))) endpoint slot (now (frame .entry)) challenge (length (now (out .entry))) .bytes) (now (out .entry)) ⌝ }
-{
-    told(endpoint.message(slot as usize, frame, challenge, own, standard, out))
-}
-
-#[no_mangle]
-pub extern "C" fn bks_endpoint_slot_value(endpoint: Endpoint, slot: u32) -> SlotSeen
-    ensures { λ r. ⌜ r ≡ seenOf (slotAt endpoint slot) ⌝ }
-{
-    seen(endpoint.slot(slot as usize))
+    let name = handshake::calls::own_name(e);
+    let flags = handshake::calls::own_flags(e);
+    let creation = handshake::calls::own_creation(e);
+    own_seen(name, flags, creation)
 }

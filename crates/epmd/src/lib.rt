@@ -1,22 +1,15 @@
 // The port mapper (01, The mapper): EPMD requests, registrations and replies over bytes that the
 // host lends. The host owns the sockets; it numbers its connections and passes in whole frames.
 //
-// Every call says answer, registry and all output bytes by one definition of specs/Serve. No public
-// call has a `requires`; a refusal writes nothing and changes nothing.
-mod registration;
-mod registry;
+// Every call says answer, registry and all output bytes by one definition of epmd_rules. No call of
+// `calls` has a `requires`; a refusal writes nothing and changes nothing.
+pub mod calls;
 mod replies;
-mod requests;
 mod serve;
 
-pub use registration::Extra;
-pub use registration::Registration;
-pub use registry::Closed;
-pub use registry::Made;
-pub use registry::Making;
-pub use registry::Registry;
-pub use requests::Refusal;
-pub use requests::Request;
-pub use requests::number_of;
-pub use serve::Answer;
-pub use serve::Served;
+pub use calls::close;
+pub use calls::entry;
+pub use calls::make;
+pub use calls::next;
+pub use calls::port;
+pub use calls::request;

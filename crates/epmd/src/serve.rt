@@ -1,163 +1,119 @@
-// The mapper's calls (01, The mapper).
+// Requests and closes, on a registry of the right length.
+use crate::replies::put_names;
+use crate::replies::put_port2;
+use epmd_messages::replies::put_alive2_reply;
+use epmd_messages::requests::alive2_highest;
+use epmd_messages::requests::alive2_name;
+use epmd_messages::requests::examine;
+use epmd_messages::requests::registration_of;
+use epmd_rules::answer::Answer;
+use epmd_rules::registration::Registration;
+use epmd_rules::request::Request;
+use epmd_state::find::find_connection;
+use epmd_state::find::find_free;
+use epmd_state::find::find_name;
+use epmd_state::head::next;
+use epmd_state::head::put_next;
+use epmd_state::layout::PLACES;
+use epmd_state::put::clear;
+use epmd_state::put::put;
 ghost use mathlib.Core.Path.{_≡_};
-ghost use Prim.Native.Nat.{_≤_};
+ghost use mathlib.Core.Bool.{cond};
+ghost use Prim.Native.Nat.{_≤_, _<_};
 ghost use lib.ListN.{length};
-ghost use Rattle.wire.specs.Output.{written};
-ghost use Rattle.epmd.specs.Replies.{port2By, namesReply};
-ghost use Rattle.epmd.specs.Serve.{Alive2Body, told, resultBy, registrationOf, alive2Of, requestOf};
-use crate::registration::Extra;
-use crate::registration::Registration;
-use crate::registration::Sought;
-use crate::registry::Found;
-use crate::registry::Registry;
-use crate::registry::Survey;
-use crate::replies::put_alive2_reply;
-use crate::replies::put_line;
-use crate::replies::put_port2_found;
-use crate::replies::put_port2_missing;
-use crate::requests::Refusal;
-use crate::requests::Request;
-use crate::requests::examine;
-use names::Name;
+ghost use lib.Dec.{eqb};
+ghost use Rattle.epmd_rules.specs.Requests.{room};
+ghost use Rattle.epmd_rules.specs.Registry.{lowestFree, stepped, filled, closeOf};
+ghost use Rattle.epmd_rules.specs.Serve.{Alive2Body, resultOf, alive2Of, requestOf};
+ghost use Rattle.epmd_state.specs.Bytes.{places, size, registryOf, Does, Closes};
 
-// What a call tells: the count written, or the refusal.
-pub enum Answer {
-    Written(usize),
-    Refused(Refusal),
-}
-
-pub struct Served {
-    pub registry: Registry,
-    pub answer: Answer,
-}
-
-// The registration that an ALIVE2 body asks for.
-fn registration_of(body: &[u8], connection: u32, creation: u32) -> Registration
-    requires { ⌜ Alive2Body (now body) ⌝ }
-    ensures { λ r. ⌜ r ≡ registrationOf connection creation (now (body .entry)) ⌝ }
+// The creation after this one: 0 is never given.
+fn step(creation: u32) -> u32
+    ensures { λ r. ⌜ r ≡ stepped creation ⌝ }
 {
-    let nlen = wire::get16(body, 9) as usize;
-    let at = 11 + nlen;
-    let elen = wire::get16(body, at) as usize;
-    let name = Name::of(wire::get_part(body, 11, nlen));
-    let extra = Extra::of(wire::get_part(body, at + 2, elen));
-    Registration {
-        name,
-        extra,
-        kind: wire::get8(body, 3),
-        protocol: wire::get8(body, 4),
-        port: wire::get16(body, 1),
-        highest: wire::get16(body, 5),
-        lowest: wire::get16(body, 7),
-        connection,
+    if creation == 4294967295 {
+        return 1;
+    }
+    creation + 1
+}
+
+// The lowest free place gets a registration, under the next creation.
+fn fill(state: &mut [u8], at: usize, p: Registration, creation: u32)
+    requires { ⌜ (at ≡ lowestFree (registryOf (now state))) × (at < places) × (creation ≡ registryOf (now state) .next) × (length (now state) ≡ size) ⌝ }
+    ensures { λ _. ⌜ registryOf (now (state .exit)) ≡ filled (registryOf (now (state .entry))) p ⌝ }
+{
+    put(state, at, p);
+    put_next(state, step(creation));
+}
+
+// Where a registration would go: 64 if its Result is 1.
+fn place_for(state: &[u8], connection: u32, name: &[u8]) -> usize
+    requires { ⌜ length (now state) ≡ size ⌝ }
+    ensures { λ r. ⌜ r ≡ cond (eqb (resultOf (registryOf (now (state .entry))) connection (now (name .entry))) 0) (lowestFree (registryOf (now (state .entry)))) places ⌝ }
+{
+    if find_name(state, name) < PLACES {
+        return PLACES;
+    }
+    if find_connection(state, connection) < PLACES {
+        return PLACES;
+    }
+    let free = find_free(state);
+    if free < PLACES {
+        return free;
+    }
+    PLACES
+}
+
+// ALIVE2_REQ: fills the lowest free place, or tells Result 1 and changes nothing.
+fn alive2(state: &mut [u8], connection: u32, body: &[u8], out: &mut [u8]) -> Answer
+    requires { ⌜ (Alive2Body (now body)) × (room ≤ length (now out)) × (length (now state) ≡ size) ⌝ }
+    ensures { λ r. ⌜ Does (alive2Of (registryOf (now (state .entry))) connection (now (body .entry))) r (now (state .exit)) (now (out .entry)) (now (out .exit)) ⌝ }
+{
+    let highest = alive2_highest(body);
+    let at = place_for(&state[..], connection, alive2_name(body));
+    if PLACES <= at {
+        let n = put_alive2_reply(out, highest, 1, 0);
+        return Answer::Written(n);
+    }
+    let creation = next(&state[..]);
+    fill(
+        state,
+        at,
+        registration_of(body, connection, creation),
         creation,
-    }
+    );
+    let n = put_alive2_reply(out, highest, 0, creation);
+    Answer::Written(n)
 }
 
-// The Result of a registration: 0, or 1 where the name or the connection has one, or all places are
-// taken.
-fn result_of(s: Survey) -> u8
-    ensures { λ r. ⌜ r ≡ resultBy (s .named) (s .connected) (s .free) ⌝ }
+pub(crate) fn request_in(state: &mut [u8], connection: u32, frame: &[u8], out: &mut [u8]) -> Answer
+    requires { ⌜ length (now state) ≡ size ⌝ }
+    ensures { λ r. ⌜ Does (requestOf (registryOf (now (state .entry))) connection (now (frame .entry)) (length (now (out .entry)))) r (now (state .exit)) (now (out .entry)) (now (out .exit)) ⌝ }
 {
-    if s.named < 64 {
-        return 1;
+    let asked = examine(frame, out.len());
+    match asked {
+        Request::Refused(why) => Answer::Refused(why),
+        Request::Alive2 => alive2(state, connection, wire::body_of(frame), out),
+        Request::PortPlease2 => {
+            let body = wire::body_of(frame);
+            let n = put_port2(&state[..], &body[1..], out);
+            Answer::Written(n)
+        }
+        Request::Names => {
+            let n = put_names(&state[..], out);
+            Answer::Written(n)
+        }
     }
-    if s.connected < 64 {
-        return 1;
-    }
-    if s.free < 64 {
-        return 0;
-    }
-    1
 }
 
-// Writes the reply to a question for a name, by what was found under it, and tells its length.
-fn put_port2_reply(out: &mut [u8], found: Found) -> usize
-    requires { ⌜ 397 ≤ length (now out) ⌝ }
-    ensures { λ r. ⌜ r ≡ length (port2By (found .at) (found .entry)) ⌝ }
-    ensures { λ _. ⌜ now (out .exit) ≡ written (port2By (found .at) (found .entry)) (now (out .entry)) ⌝ }
+pub(crate) fn close_in(state: &mut [u8], connection: u32) -> bool
+    requires { ⌜ length (now state) ≡ size ⌝ }
+    ensures { λ r. ⌜ Closes (closeOf (registryOf (now (state .entry))) connection) r (now (state .exit)) ⌝ }
 {
-    if found.at < 64 {
-        let entry = found.entry;
-        return put_port2_found(out, entry);
+    let place = find_connection(&state[..], connection);
+    if PLACES <= place {
+        return false;
     }
-    put_port2_missing(out)
-}
-
-impl Registry {
-    // Writes the NAMES reply, and tells its length.
-    fn put_names_reply(self, out: &mut [u8]) -> usize
-        requires { ⌜ 17604 ≤ length (now out) ⌝ }
-        ensures { λ r. ⌜ r ≡ length (namesReply self) ⌝ }
-        ensures { λ _. ⌜ now (out .exit) ≡ written (namesReply self) (now (out .entry)) ⌝ }
-    {
-        let port = wire::be32(self.port as u32);
-        wire::put_bytes(out, 0, &port);
-        let mut at: usize = 4;
-        let mut i: usize = 0;
-        while i < 64 {
-            at = put_line(out, at, self.registrations[i]);
-            i += 1;
-        }
-        at
-    }
-
-    // ALIVE2_REQ: fills the lowest free place, or tells a Result above 0 and changes nothing.
-    fn alive2(self, connection: u32, body: &[u8], out: &mut [u8]) -> Served
-        requires { ⌜ Alive2Body (now body) ⌝ }
-        requires { ⌜ 6 ≤ length (now out) ⌝ }
-        ensures { λ r. ⌜ r ≡ told (alive2Of self connection (now (body .entry))) ⌝ }
-        ensures { λ _. ⌜ now (out .exit) ≡ written (alive2Of self connection (now (body .entry)) .bytes) (now (out .entry)) ⌝ }
-    {
-        let nlen = wire::get16(body, 9) as usize;
-        let highest = wire::get16(body, 5);
-        let others = self.survey(connection, wire::get_part(body, 11, nlen));
-        let result = result_of(others);
-        if result != 0 {
-            let n = put_alive2_reply(out, highest, result, 0);
-            return Served {
-                registry: self,
-                answer: Answer::Written(n),
-            };
-        }
-        let creation = self.next;
-        let at = others.free;
-        let filled = self.fill(at, registration_of(body, connection, creation));
-        let n = put_alive2_reply(out, highest, 0, creation);
-        Served {
-            registry: filled,
-            answer: Answer::Written(n),
-        }
-    }
-
-    // A frame from a connection: the reply is written from the first byte of out on.
-    pub fn request(self, connection: u32, frame: &[u8], out: &mut [u8]) -> Served
-        ensures { λ r. ⌜ r ≡ told (requestOf self connection (now (frame .entry)) (length (now (out .entry)))) ⌝ }
-        ensures { λ _. ⌜ now (out .exit) ≡ written (requestOf self connection (now (frame .entry)) (length (now (out .entry))) .bytes) (now (out .entry)) ⌝ }
-    {
-        let asked = examine(frame, out.len());
-        match asked {
-            Request::Refused(n) => Served {
-                registry: self,
-                answer: Answer::Refused(n),
-            },
-            Request::Alive2 => self.alive2(connection, wire::body_of(frame), out),
-            Request::PortPlease2 => {
-                let body = wire::body_of(frame);
-                let found = self.find(Sought::Named, &body[1..]);
-                let n = put_port2_reply(out, found);
-                Served {
-                    registry: self,
-                    answer: Answer::Written(n),
-                }
-            }
-            Request::Names => {
-                let n = self.put_names_reply(out);
-                Served {
-                    registry: self,
-                    answer: Answer::Written(n),
-                }
-            }
-        }
-    }
+    clear(state, place);
+    true
 }

@@ -6,11 +6,11 @@
 ghost use mathlib.Core.Path.{_≡_};
 ghost use Prim.Native.Nat.{_≤_};
 ghost use lib.ListN.{length};
-use handshake::Answer;
-use handshake::Endpoint;
-use handshake::Freed;
-use handshake::Making;
-use handshake::Stage;
+use handshake::SIZE;
+use handshake::calls;
+use handshake_rules::endpoint::Answer;
+use handshake_rules::endpoint::Freed;
+use handshake_rules::endpoint::Making;
 use libc::STDIN_FILENO;
 use libc::STDOUT_FILENO;
 use read::byte;
@@ -20,11 +20,6 @@ use read::num64;
 use read::part;
 
 mod read;
-
-struct Pair {
-    one: Endpoint,
-    two: Endpoint,
-}
 
 fn wide(b: u8) -> u64 {
     b as u64
@@ -45,19 +40,6 @@ fn bytes(s: &[u8]) {
     while i < s.len() {
         io::print_hex(STDOUT_FILENO, wide(s[i]), 2);
         i += 1;
-    }
-}
-
-fn stage_number(stage: Stage) -> u64 {
-    match stage {
-        Stage::Free => 0,
-        Stage::AwaitsName => 1,
-        Stage::AwaitsAlive => 2,
-        Stage::AwaitsReply => 3,
-        Stage::AwaitsStatus => 4,
-        Stage::AwaitsChallenge => 5,
-        Stage::AwaitsAck => 6,
-        Stage::Connected => 7,
     }
 }
 
@@ -97,7 +79,7 @@ fn tell(answer: Answer) -> usize {
             count,
         } => {
             word(b"answered");
-            number(stage_number(stage));
+            number(wide(stage.number()));
             freed_number(freed);
             number(count as u64);
             count
@@ -125,14 +107,15 @@ fn differs(b: u8, i: usize, from: usize) -> u64
     if b == 170 { 0 } else { 1 }
 }
 
+// What was written; how many bytes behind it are not as they were, and how many in all.
 fn print_output(out: &[u8], count: usize) {
     bytes(part(out, 0, count));
     number(changed(out, count));
+    number(changed(out, 0));
 }
 
-fn make(r: &[u8]) -> Endpoint {
-    let m = Endpoint::new(part(r, 14, 65535), num64(r, 2), num32(r, 10));
-    let making = m.making;
+fn make(e: &mut [u8; SIZE], r: &[u8]) {
+    let making = calls::make(e, part(r, 14, 65535), num64(r, 2), num32(r, 10));
     match making {
         Making::Ready => word(b"made"),
         Making::NotMade(why) => {
@@ -140,7 +123,6 @@ fn make(r: &[u8]) -> Endpoint {
             number(wide(why.number()));
         }
     }
-    m.endpoint
 }
 
 // An output that a call is lent: 170 in every byte. The length is said for lending a part of it.
@@ -157,32 +139,27 @@ fn room(n: u16) -> usize
     if n < 600 { n as usize } else { 600 }
 }
 
-fn start(e: Endpoint, r: &[u8], out: &mut [u8]) -> Endpoint {
-    let t = e.start(part(r, 4, 65535), out);
-    let answer = t.answer;
+fn start(e: &mut [u8; SIZE], r: &[u8], out: &mut [u8]) {
+    let answer = calls::start(e, part(r, 4, 65535), out);
     let count = tell(answer);
     print_output(out, count);
-    t.endpoint
 }
 
-fn arrive(e: Endpoint) -> Endpoint {
-    let t = e.arrive();
-    let answer = t.answer;
+fn arrive(e: &mut [u8; SIZE]) {
+    let answer = calls::arrive(e);
     tell(answer);
-    t.endpoint
 }
 
-fn close(e: Endpoint, r: &[u8]) -> Endpoint {
-    let t = e.close(num16(r, 2) as usize);
-    let answer = t.answer;
+fn close(e: &mut [u8; SIZE], r: &[u8]) {
+    let answer = calls::close(e, num16(r, 2) as usize);
     tell(answer);
-    t.endpoint
 }
 
-fn message(e: Endpoint, r: &[u8], out: &mut [u8]) -> Endpoint {
+fn message(e: &mut [u8; SIZE], r: &[u8], out: &mut [u8]) {
     let own = num16(r, 10) as usize;
     let standard = num16(r, 12) as usize;
-    let t = e.message(
+    let answer = calls::message(
+        e,
         num16(r, 2) as usize,
         part(r, 14 + own + standard, 65535),
         num32(r, 4),
@@ -190,41 +167,38 @@ fn message(e: Endpoint, r: &[u8], out: &mut [u8]) -> Endpoint {
         part(r, 14 + own, standard),
         out,
     );
-    let answer = t.answer;
     let count = tell(answer);
     print_output(out, count);
-    t.endpoint
 }
 
-fn start_in(e: Endpoint, r: &[u8]) -> Endpoint {
+fn start_in(e: &mut [u8; SIZE], r: &[u8]) {
     let mut space = output();
     let n = room(num16(r, 2));
     start(e, r, &mut space[..n])
 }
 
-fn message_in(e: Endpoint, r: &[u8]) -> Endpoint {
+fn message_in(e: &mut [u8; SIZE], r: &[u8]) {
     let mut space = output();
     let n = room(num16(r, 8));
     message(e, r, &mut space[..n])
 }
 
-fn show(e: Endpoint, r: &[u8]) -> Endpoint {
-    let s = e.slot(num16(r, 2) as usize);
+fn show(e: &mut [u8; SIZE], r: &[u8]) {
+    let s = calls::slot(e, num16(r, 2) as usize);
     word(b"slot");
     let stage = s.stage;
-    number(stage_number(stage));
+    number(wide(stage.number()));
     let n = s.name;
     let b = n.array();
     bytes(part(&b, 0, n.size()));
     number(s.flags);
     number(s.creation as u64);
     number(s.challenge as u64);
-    e
 }
 
-fn act(e: Endpoint, r: &[u8]) -> Endpoint {
+fn act(e: &mut [u8; SIZE], r: &[u8]) {
     match byte(r, 0) {
-        b'n' => make(r),
+        b'n' => make(e, r),
         b's' => start_in(e, r),
         b'a' => arrive(e),
         b'c' => close(e, r),
@@ -233,31 +207,19 @@ fn act(e: Endpoint, r: &[u8]) -> Endpoint {
     }
 }
 
-fn step(p: Pair, r: &[u8]) -> Pair {
+// By the record's second byte, on the one endpoint or the other.
+fn step(one: &mut [u8; SIZE], two: &mut [u8; SIZE], r: &[u8]) {
     if byte(r, 1) == 0 {
-        let e = p.one;
-        let f = act(e, r);
-        word(b"\n");
-        let two = p.two;
-        return Pair { one: f, two };
+        act(one, r);
+    } else {
+        act(two, r);
     }
-    let e = p.two;
-    let f = act(e, r);
     word(b"\n");
-    let one = p.one;
-    Pair { one, two: f }
-}
-
-fn blank() -> Endpoint {
-    let m = Endpoint::new(b"", 0, 0);
-    m.endpoint
 }
 
 fn run(s: &[u8]) {
-    let mut p = Pair {
-        one: blank(),
-        two: blank(),
-    };
+    let mut one = [0u8; SIZE];
+    let mut two = [0u8; SIZE];
     let mut i = 0;
     while 2 <= s.len() - i {
         let n = wire::get16(s, i) as usize;
@@ -266,7 +228,7 @@ fn run(s: &[u8]) {
             return;
         }
         let e = i + n;
-        p = step(p, &s[i..e]);
+        step(&mut one, &mut two, &s[i..e]);
         i = e;
     }
 }

@@ -1,8 +1,8 @@
 -- A line names a connection exactly if it is the key and a number's decimal text. Assumes nothing.
-use Prim.Native.Nat.{ℕ, _<_, _≤_, _+_, _^_}
+use Prim.Native.Nat.{ℕ, _<_, _+_, _^_}
 use mathlib.Core.Path.{_≡_, refl, sym, _∙_, ap, subst}
 use mathlib.Core.Bool.{Bool, true, false, cond}
-use mathlib.Core.List.{List, [], _∷_, _++_}
+use mathlib.Core.List.{List, _++_}
 use native.Mathlib.Omega.{arith}
 use lib.ListN.{length, take, drop, take-append-drop}
 use lib.Dec.{ltb}

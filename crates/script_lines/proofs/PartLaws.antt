@@ -1,23 +1,24 @@
 -- An input that comes in parts prints what the whole prints. Assumes nothing.
-use Prim.Native.Nat.{ℕ, zero, suc, _≤_, _<_}
+use Prim.Native.Nat.{ℕ, zero, suc, _+_, _-_, _≤_, _<_}
 use mathlib.Core.Path.{_≡_, refl, sym, ap, _∙_}
 use mathlib.Core.Bool.{Bool, true, false, cond}
 use mathlib.Core.List.{List, [], _∷_, _++_, append-assoc, append-nil}
 use native.Mathlib.Omega.{arith}
-use lib.ListN.{length, take, drop, length-take}
-use lib.Seq.{take-all}
+use lib.ListN.{length, take, drop, length-take, length-drop, drop-of-length-le}
+use lib.Seq.{take-all, drop-drop}
+use Rattle.wire.specs.Output.{overwrite}
 use lib.Dec.{eqb, ltb}
 use borrow.Author.Tests.{ltb-true, ltb-false, ne-eqb}
 use Rattle.script_lines.specs.declared.line.Item.the-variants.{Malformed}
 use Rattle.script_lines.specs.declared.script.Awaits.{Awaits}
 use Rattle.script_lines.specs.declared.script.Awaits.the-variants.{Operation, Connection, Frame, Nothing}
-use Rattle.script_lines.specs.declared.script.Script.{Script}
+use Rattle.script_lines.specs.State.{Script}
 use Rattle.script_lines.specs.Line.{itemOf}
 use Rattle.script_lines.specs.Script.{Outcome, planOf, outcomeOf, lineOf}
-use Rattle.script_lines.specs.Lines.{upTo, linesFrom, printedFrom, kept, takeOf}
-use Rattle.script_lines.specs.Claims.{toPrint, PartsPrint}
+use Rattle.script_lines.specs.Lines.{upTo, linesFrom, printedFrom, toPrint, kept, Taking, takeOf, Printed}
+use Rattle.script_lines.specs.Claims.{PartsPrint}
 use Rattle.script_lines.proofs.LineLaws.{item-long}
-use Rattle.script_lines.proofs.TakeLaws.{take-line, take-part}
+use Rattle.script_lines.proofs.TakeLaws.{up-all, kept-count, kept-line, take-line, take-part}
 
 -- ---- the first 801 characters of a line decide
 
@@ -116,3 +117,59 @@ parts-print s held xs more = by (ltb (length (upTo xs)) (length xs)) refl where
   by false e =
       let h = ltb-false (length (upTo xs)) (length xs) e in
       rw (take-part s held xs h) (ap (printedFrom s) (lines-part held xs more h) ∙ sym (held-kept s (held ++ xs) more))
+
+-- ---- as the code goes through a part
+
+-- what a call that took has in its buffer, and what is left of the part
+module _ (s : Script) (part line : List ℕ) (from held n next : ℕ) (low : held ≤ 801) (long : length line ≡ 801) (start : from ≤ length part) where
+  abbrev there : Taking
+  there = takeOf s (take held line) (drop from part)
+
+  abbrev after : List ℕ
+  after = overwrite line held (take (801 - held) (upTo (drop from part)))
+
+  pub turned : n ≡ length (there .held) → next ≡ length part - length (there .rest) → (take n after ≡ there .held) × (drop next part ≡ there .rest)
+  turned e f = by (ltb (length (upTo (drop from part))) (length (drop from part))) refl where
+    by : (t : Bool) → ltb (length (upTo (drop from part))) (length (drop from part)) ≡ t → (take n after ≡ there .held) × (drop next part ≡ there .rest)
+    by true q =
+        let r = take-line s (take held line) (drop from part) (ltb-true (length (upTo (drop from part))) (length (drop from part)) q) in
+        let h : n ≡ 0 = e ∙ ap (λ (x : Taking). length (x .held)) r in
+        let k : next ≡ from + suc (length (upTo (drop from part))) =
+        omega (
+          arith,
+          f,
+          ap (λ (x : Taking). length (x .rest)) r,
+          length-drop (suc (length (upTo (drop from part)))) (drop from part),
+          length-drop from part,
+          ltb-true (length (upTo (drop from part))) (length (drop from part)) q,
+        ) in (
+          ap (λ (j : ℕ). take j after) h ∙ sym (ap (λ (x : Taking). x .held) r),
+          ap (λ (j : ℕ). drop j part) k ∙ sym (drop-drop (suc (length (upTo (drop from part)))) from part) ∙ sym (ap (λ (x : Taking). x .rest) r),
+        )
+    by false q =
+        let l = ltb-false (length (upTo (drop from part))) (length (drop from part)) q in
+        let r = take-part s (take held line) (drop from part) l in
+        let u = up-all (drop from part) l in
+        let h : n ≡ held + length (take (801 - held) (upTo (drop from part))) =
+        e ∙ ap (λ (x : Taking). length (x .held)) r ∙ ap (λ (x : List ℕ). length (kept (take held line ++ x))) (sym u) ∙ sym (kept-count line (upTo (drop from part)) held low long) in
+        let k : length part ≤ next = omega (arith, f, ap (λ (x : Taking). length (x .rest)) r) in (
+          kept-line line (upTo (drop from part)) held low long n h ∙ ap (λ (x : List ℕ). kept (take held line ++ x)) u ∙ sym (ap (λ (x : Taking). x .held) r),
+          drop-of-length-le part k ∙ sym (ap (λ (x : Taking). x .rest) r),
+        )
+
+pub printed-none : (s : Script) (held xs : List ℕ) → Printed s held xs s held xs
+printed-none s held xs = record { bytes = []; is = λ more. refl }
+
+pub printed-more : (s : Script) (held xs : List ℕ) (s₁ : Script) (held₁ rest₁ : List ℕ) (s₂ : Script) (held₂ rest₂ : List ℕ) → Printed s held xs s₁ held₁ rest₁
+    → s₂ ≡ takeOf s₁ held₁ rest₁ .script → held₂ ≡ takeOf s₁ held₁ rest₁ .held → rest₂ ≡ takeOf s₁ held₁ rest₁ .rest
+    → Printed s held xs s₂ held₂ rest₂
+printed-more s held xs s₁ held₁ rest₁ s₂ held₂ rest₂ p e f g =
+    let t = takeOf s₁ held₁ rest₁ in
+    record {
+      bytes = p .bytes ++ t .bytes;
+      is = λ more.
+          p .is more
+          ∙ ap (λ (l : List ℕ). p .bytes ++ l) (parts-print s₁ held₁ rest₁ more)
+          ∙ sym (append-assoc (p .bytes) (t .bytes) (toPrint (t .script) (t .held) (t .rest ++ more)))
+          ∙ ap (λ (l : List ℕ). (p .bytes ++ t .bytes) ++ l) (sym (λ i. toPrint (e i) (f i) (g i ++ more)));
+    }

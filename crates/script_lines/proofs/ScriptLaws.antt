@@ -2,36 +2,34 @@
 use Prim.Native.Nat.{ℕ, _≤_}
 use mathlib.Core.Path.{_≡_, refl, sym, ap, ap₂, _∙_}
 use mathlib.Core.Bool.{Bool, true, false, cond}
-use mathlib.Core.List.{List, []}
+use mathlib.Core.List.{List, [], _∷_, _++_}
 use native.Mathlib.Omega.{arith}
 use lib.ListN.{length, take, drop}
 use lib.Dec.{ltb}
-use borrow.Author.Tests.{ltb-false}
+use borrow.Author.Tests.{ltb-false, eq-eqb, ne-eqb}
 use Rattle.wire.specs.Decimal.{value}
 use Rattle.wire.specs.Run.{sameBytes}
 use Rattle.wire.specs.Output.{written}
-use Rattle.epmd.specs.declared.registry.Registry.{Registry}
-use Rattle.epmd.specs.declared.requests.Refusal.{Refusal}
-use Rattle.epmd.specs.declared.serve.Answer.{Answer}
-use Rattle.epmd.specs.declared.serve.Answer.the-variants.{Written, Refused}
-use Rattle.epmd.specs.declared.serve.Served.{Served}
-use Rattle.epmd.specs.Requests.{refusalNumber}
-use Rattle.epmd.specs.Serve.{requestOf}
-use Rattle.epmd.specs.Serve as mapper
+use Rattle.epmd_rules.specs.declared.answer.Answer.{Answer}
+use Rattle.epmd_rules.specs.State.{Registry}
+use Rattle.epmd_rules.specs.Registry.{newOf}
+use Rattle.epmd_rules.specs.Answers.{numbersOf}
+use Rattle.epmd_state.specs.Bytes.{ifMade}
+use Rattle.epmd_rules.specs.Serve as mapper
 use Rattle.script_lines.specs.declared.line.Item.{Item}
 use Rattle.script_lines.specs.declared.line.Item.the-variants.{Op, Conn, Hex, Malformed}
 use Rattle.script_lines.specs.declared.script.Awaits.{Awaits}
 use Rattle.script_lines.specs.declared.script.Awaits.the-variants.{Operation, Connection, Frame, Nothing}
 use Rattle.script_lines.specs.declared.script.Plan.{Plan}
-use Rattle.script_lines.specs.declared.script.Plan.the-variants.{Serve}
-use Rattle.script_lines.specs.declared.script.Script.{Script}
-use Rattle.script_lines.specs.declared.script.Stepped.{Stepped}
+use Rattle.script_lines.specs.declared.script.Plan.the-variants.{Await, Serve, Fail, Rest}
+use Rattle.script_lines.specs.State.{Script}
 use Rattle.script_lines.specs.Text.{isHex, isDecimal}
 use Rattle.script_lines.specs.Line.{opReq, connKey, hexKey, startsWith, connItem, hexItem, itemOf}
 use Rattle.script_lines.specs.Answer.{answerText, resultNumber}
-use Rattle.script_lines.specs.Script.{planOf, insideGroup, told, answered, failed, quiet, outcomeOf, lineOf, endOf}
+use Rattle.script_lines.specs.Script.{planOf, insideGroup, answered, failure, failed, quiet, outcomeOf, lineOf, ending, endOf}
+use Rattle.script_lines.specs.Lines.{linesFrom, printedFrom, toPrint}
 use Rattle.script_lines.proofs.LineLaws.{starts-fits}
-use Rattle.script_lines.proofs.AnswerLaws.{written-front, written-holds, request-honest}
+use Rattle.script_lines.proofs.AnswerLaws.{written-front, written-holds}
 
 -- a line is what is planned for it
 pub line-planned : (s : Script) (l : List ℕ) (p : Plan) → planOf (s .awaits) (itemOf l) ≡ p → lineOf s l ≡ outcomeOf s l p
@@ -86,16 +84,6 @@ module _ (l : List ℕ) where
     by false p false false true q f = record { key = starts-fits hexKey l q; short = ltb-false 800 (length l) p; text = hex-text f }
     by false p false false false q f = let z : _≡_ {A = ℕ} 0 1 = cc in absurd (omega arith)
 
--- the input's end
-module _ (s : Script) where
-  pub end-inside : insideGroup (s .awaits) ≡ true → endOf s ≡ failed (s .registry)
-  unfolding endOf
-  end-inside e = rw e
-
-  pub end-outside : insideGroup (s .awaits) ≡ false → endOf s ≡ quiet (s .registry) (s .awaits)
-  unfolding endOf
-  end-outside e = rw e
-
 -- the line of a plan that serves a frame
 pub serve-line : (s : Script) (l : List ℕ) (i : Item) (p : Plan) (c : ℕ) → i ≡ itemOf l → p ≡ planOf (s .awaits) i → p ≡ Serve c → HexLine l
 serve-line s l i p c e f g = hex-line l (sym e ∙ serve-hex (s .awaits) i c (sym f ∙ g))
@@ -103,35 +91,57 @@ serve-line s l i p c e f g = hex-line l (sym e ∙ serve-hex (s .awaits) i c (sy
 pub line-plan : (s : Script) (l : List ℕ) (i : Item) (p q : Plan) → i ≡ itemOf l → p ≡ planOf (s .awaits) i → p ≡ q → lineOf s l ≡ outcomeOf s l q
 line-plan s l i p q e f g = line-planned s l q (ap (planOf (s .awaits)) (sym e) ∙ sym f ∙ g)
 
--- ---- what is made of the mapper's answer: s is what it told, and it wrote into a buffer `before`
+-- ---- what is made of the mapper's answer: it told a, and wrote into a buffer `before`
 
-module _ (r : Registry) (c : ℕ) (frame : List ℕ) (s : Served) (before reply : List ℕ) (e : s ≡ mapper.told (requestOf r c frame 17604))
-    (w : reply ≡ written (requestOf r c frame 17604 .bytes) before) where
-  answer-told : (a : Answer) → s .answer ≡ a → requestOf r c frame 17604 .answer ≡ a
-  answer-told a f = sym (ap (λ (x : Served). x .answer) e) ∙ f
+module _ (o : mapper.Outcome) (a : Answer) (before reply : List ℕ) (e : a ≡ o .answer) (w : reply ≡ written (o .bytes) before)
+    (n : numbersOf (o .answer) .written ≡ length (o .bytes)) where
+  pub count-told : numbersOf a .written ≡ length (o .bytes)
+  count-told = ap (λ (x : Answer). numbersOf x .written) e ∙ n
 
-  count-told : (k : ℕ) → s .answer ≡ Written k → k ≡ length (requestOf r c frame 17604 .bytes)
-  count-told k f = request-honest r c frame 17604 .count k (answer-told (Written k) f)
+  pub reply-holds : numbersOf a .written ≤ length reply
+  reply-holds = written-holds (o .bytes) before reply (numbersOf a .written) w count-told
 
-  pub reply-holds : (k : ℕ) → s .answer ≡ Written k → k ≤ length reply
-  reply-holds k f = written-holds (requestOf r c frame 17604 .bytes) before reply k w (count-told k f)
-
-  reply-front : (k : ℕ) → s .answer ≡ Written k → take k reply ≡ requestOf r c frame 17604 .bytes
-  reply-front k f = ap (take k) w ∙ written-front (requestOf r c frame 17604 .bytes) before k (count-told k f)
+  reply-front : take (numbersOf a .written) reply ≡ o .bytes
+  reply-front = ap (take (numbersOf a .written)) w ∙ written-front (o .bytes) before (numbersOf a .written) count-told
 
   -- the text that is put is the outcome's
-  pub reply-text : (k : ℕ) → s .answer ≡ Written k → answerText 0 (take k reply) ≡ answered (requestOf r c frame 17604) .bytes
-  reply-text k f =
-      ap (answerText 0) (reply-front k f)
-      ∙ ap (λ (a : Answer). answerText (resultNumber a) (requestOf r c frame 17604 .bytes)) (sym (answer-told (Written k) f))
+  pub answer-text : answerText (resultNumber a) (take (numbersOf a .written) reply) ≡ answered o .bytes
+  answer-text = ap₂ answerText (ap resultNumber e) reply-front
 
-  pub refusal-text : (n : Refusal) (m : ℕ) → s .answer ≡ Refused n → m ≡ refusalNumber n → answerText m [] ≡ answered (requestOf r c frame 17604) .bytes
-  refusal-text n m f g =
-      ap₂ answerText g (sym (request-honest r c frame 17604 .none n (answer-told (Refused n) f)))
-      ∙ ap (λ (a : Answer). answerText (resultNumber a) (requestOf r c frame 17604 .bytes)) (sym (answer-told (Refused n) f))
+-- ---- the input's end
 
-  pub step-told : (n : ℕ) (t : List ℕ) → n ≡ length t → t ≡ answered (requestOf r c frame 17604) .bytes
-      → _≡_ {A = Stepped} (record { script = record { registry = s .registry; awaits = Operation }; written = n }) (told (answered (requestOf r c frame 17604)))
-  step-told n t f g =
-      let h = f ∙ ap length g in
-      λ i. record { script = record { registry = e i .registry; awaits = Operation }; written = h i }
+pub end-text : (s : Script) → endOf s .bytes ≡ ending (s .awaits)
+unfolding endOf
+end-text s = by (insideGroup (s .awaits)) where
+  by : (t : Bool) → cond t (failed (s .registry)) (quiet (s .registry) (s .awaits)) .bytes ≡ cond t failure []
+  by true = refl
+  by false = refl
+
+-- what the last line prints is all, or it prints nothing and the end prints the rest
+module _ (s : Script) (l : List ℕ) where
+  end-quiet : (p : Plan) → (length (outcomeOf s l p .bytes) ≡ 0 → ⊥) → ending (outcomeOf s l p .script .awaits) ≡ []
+  end-quiet (Await a) h = absurd (h refl)
+  end-quiet (Serve c) h = refl
+  end-quiet Fail h = refl
+  end-quiet Rest h = absurd (h refl)
+
+  pub last-said : (length (lineOf s l .bytes) ≡ 0 → ⊥) → ending (lineOf s l .script .awaits) ≡ []
+  unfolding lineOf
+  last-said h = end-quiet (planOf (s .awaits) (itemOf l)) h
+
+pub last-none : (s : Script) (l : List ℕ) → length l ≡ 0 → toPrint s l [] ≡ ending (s .awaits)
+unfolding linesFrom printedFrom
+last-none s l e = rw (eq-eqb (length l) 0 e) (end-text s)
+
+pub last-line : (s : Script) (l : List ℕ) → (length l ≡ 0 → ⊥) → toPrint s l [] ≡ lineOf s l .bytes ++ ending (lineOf s l .script .awaits)
+unfolding linesFrom printedFrom
+last-line s l h = rw (ne-eqb (length l) 0 h) (ap (λ (x : List ℕ). lineOf s l .bytes ++ x) (end-text (lineOf s l .script)))
+
+pub empty-said : (l : List ℕ) → length l ≡ 0 → l ≡ []
+empty-said [] e = refl
+empty-said (x ∷ l) e = absurd (omega (arith, e))
+
+-- the mapper of 01's script is made
+pub mapper-made : (r : Registry) → ifMade (newOf 4369 1 .making) (newOf 4369 1 .registry) r ≡ newOf 4369 1 .registry
+unfolding newOf
+mapper-made r = refl

@@ -10,7 +10,7 @@ use lib.Dec.{eqb, ltb}
 use borrow.Author.Tests.{lt-ltb, le-ltb, ltb-true, ltb-false}
 use Rattle.wire.specs.Output.{overwrite}
 use Rattle.wire.specs.Run.{part}
-use Rattle.script_lines.specs.declared.script.Script.{Script}
+use Rattle.script_lines.specs.State.{Script}
 use Rattle.script_lines.specs.Script.{lineOf}
 use Rattle.script_lines.specs.Lines.{upTo, kept, takeOf}
 

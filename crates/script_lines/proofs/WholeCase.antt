@@ -5,12 +5,12 @@ use Rattle.wire.specs.Frame.{isFrame, body}
 use Rattle.wire.specs.Number.{beAt}
 use Rattle.wire.specs.Run.{part, sameBytes}
 use Rattle.names.specs.Held.{nameOf, nameBytes}
-use Rattle.epmd.specs.Registration.{extraOf, free, isFree}
-use Rattle.epmd.specs.Registry.{fresh, newOf}
-use Rattle.epmd.specs.Replies.{nameLines, namesReply}
-use Rattle.epmd.specs.Replies as replies
-use Rattle.epmd.specs.Requests.{isWithheld, examineBody, examineOf}
-use Rattle.epmd.specs.Serve.{namesOf, requestOf}
+use Rattle.epmd_rules.specs.Registration.{extraOf, free, isFree}
+use Rattle.epmd_rules.specs.Registry.{fresh, newOf}
+use Rattle.epmd_rules.specs.Replies.{nameLines, namesReply}
+use Rattle.epmd_rules.specs.Replies as replies
+use Rattle.epmd_rules.specs.Requests.{isWithheld, examineBody, examineOf}
+use Rattle.epmd_rules.specs.Serve.{namesOf, requestOf}
 use Rattle.script_lines.specs.Text.{digitValue, allDigits, isHex, unhex, digitChar, hexOf, leadsZero, isDecimal}
 use Rattle.script_lines.specs.Line.{startsWith, connItem, hexItem, itemOf}
 use Rattle.script_lines.specs.Answer.{answerText}

@@ -1,10 +1,10 @@
 -- 01, The script program: "prints `result=` (0 or the refusal) and `hex=` (the reply, empty if refused)".
-use Prim.Native.Nat.{ℕ}
+use Prim.Native.Nat.{ℕ, _+_, _*_}
 use mathlib.Core.List.{List, [], _∷_, _++_}
 use Rattle.wire.specs.Decimal.{decimal}
-use Rattle.epmd.specs.Requests.{refusalNumber}
-use Rattle.epmd.specs.declared.serve.Answer.{Answer}
-use Rattle.epmd.specs.declared.serve.Answer.the-variants.{Written, Refused}
+use Rattle.epmd_rules.specs.Requests.{room}
+use Rattle.epmd_rules.specs.Answers.{numbersOf}
+use Rattle.epmd_rules.specs.declared.answer.Answer.{Answer}
 use Rattle.script_lines.specs.Text.{hexOf}
 
 -- "result="
@@ -20,5 +20,8 @@ unfoldable pub answerText : ℕ → List ℕ → List ℕ
 answerText result reply = resultKey ++ (decimal result ++ (hexLine ++ (hexOf reply ++ (10 ∷ []))))
 
 abbrev pub resultNumber : Answer → ℕ
-resultNumber (Written n) = 0
-resultNumber (Refused r) = refusalNumber r
+resultNumber a = numbersOf a .refusal
+
+-- the longest answer: to NAMES
+abbrev pub answerRoom : ℕ
+answerRoom = 14 + 2 * room

@@ -5,11 +5,11 @@ use mathlib.Core.Bool.{true}
 use mathlib.Core.List.{List, [], _∷_, _++_}
 use Rattle.wire.specs.Claims.{Octets}
 use Rattle.wire.specs.Decimal.{decimal, value}
-use Rattle.script_lines.specs.declared.script.Script.{Script}
+use Rattle.script_lines.specs.State.{Script}
 use Rattle.script_lines.specs.Text.{isHex, unhex, hexOf, isDecimal}
 use Rattle.script_lines.specs.declared.line.Item.the-variants.{Conn}
 use Rattle.script_lines.specs.Line.{itemOf, connKey}
-use Rattle.script_lines.specs.Lines.{linesFrom, printedFrom, printed, takeOf}
+use Rattle.script_lines.specs.Lines.{printed, toPrint, takeOf}
 
 -- bytes written as text are read back (ReadBack.hex-back)
 abbrev pub HexBack : Type 0
@@ -32,10 +32,6 @@ abbrev pub ConnLine : Type 0
 ConnLine =
     (l : List ℕ) (n : ℕ)
     → (itemOf l ≡ Conn n → ((n < 2 ^ 32) × (l ≡ connKey ++ decimal n))) × (n < 2 ^ 32 → itemOf (connKey ++ decimal n) ≡ Conn n)
-
--- what a run has still to print, with some characters of a line held and so much of the input to come
-abbrev pub toPrint : Script → List ℕ → List ℕ → List ℕ
-toPrint s held input = printedFrom s (linesFrom held input)
 
 -- an input that comes in parts prints what the whole input prints: what is taken from a part xs prints the first of it, and leaves the rest to print,
 -- whatever comes behind (PartLaws.parts-print)

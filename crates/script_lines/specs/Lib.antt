@@ -1,3 +1,4 @@
+pub mod State
 pub mod Text
 pub mod Line
 pub mod Answer

@@ -1,10 +1,12 @@
 -- 01, The script program: an input as lines, and all that a run prints of it.
 use Prim.Native.Nat.{ℕ, suc, _-_}
+use mathlib.Core.Path.{_≡_}
 use mathlib.Core.Bool.{cond}
+use Rattle.wire.specs.Output.{written}
 use mathlib.Core.List.{List, [], _∷_, _++_}
 use lib.ListN.{length, take, drop}
 use lib.Dec.{eqb, ltb}
-use Rattle.script_lines.specs.declared.script.Script.{Script}
+use Rattle.script_lines.specs.State.{Script, scriptIn}
 use Rattle.script_lines.specs.declared.script.Taken.{Taken}
 use Rattle.script_lines.specs.Script.{lineOf, endOf, started}
 
@@ -22,6 +24,10 @@ linesFrom held (c ∷ cs) = cond (eqb c 10) (held ∷ linesFrom [] cs) (linesFro
 unfoldable pub printedFrom : Script → List (List ℕ) → List ℕ
 printedFrom s [] = endOf s .bytes
 printedFrom s (l ∷ ls) = lineOf s l .bytes ++ printedFrom (lineOf s l .script) ls
+
+-- what a run has still to print, with some characters of a line held and so much of the input to come
+abbrev pub toPrint : Script → List ℕ → List ℕ → List ℕ
+toPrint s held input = printedFrom s (linesFrom held input)
 
 -- and of a whole input
 unfoldable pub printed : List ℕ → List ℕ
@@ -52,6 +58,15 @@ takeOf s held xs =
     })
     (record { script = s; held = kept (held ++ xs); bytes = []; rest = [] })
 
--- what a call hands back that takes from a part of n characters
-abbrev pub taken : ℕ → Taking → Taken
-taken n t = record { script = t .script; held = length (t .held); next = n - length (t .rest); written = length (t .bytes) }
+-- a call takes so from a part of n characters
+pub record Takes (t : Taking) (n : ℕ) (told : Taken) (registry out out' : List ℕ) : Type 0 where
+  pub script : scriptIn (told .awaits) registry ≡ t .script
+  pub held : told .held ≡ length (t .held)
+  pub next : told .next ≡ n - length (t .rest)
+  pub count : told .written ≡ length (t .bytes)
+  pub output : out' ≡ written (t .bytes) out
+
+-- of a part xs some bytes were printed, and the rest is still to be printed, whatever comes behind the part
+pub record Printed (s : Script) (held xs : List ℕ) (s' : Script) (held' rest : List ℕ) : Type 0 where
+  pub bytes : List ℕ
+  pub is : (more : List ℕ) → toPrint s held (xs ++ more) ≡ bytes ++ toPrint s' held' (rest ++ more)

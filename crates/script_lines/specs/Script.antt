@@ -2,19 +2,22 @@
 use Prim.Native.Nat.{ℕ}
 use mathlib.Core.Bool.{Bool, true, false, cond}
 use mathlib.Core.List.{List, []}
+use mathlib.Core.Path.{_≡_}
 use lib.ListN.{length}
-use Rattle.epmd.specs.declared.registry.Registry.{Registry}
-use Rattle.epmd.specs.Registry.{newOf}
-use Rattle.epmd.specs.Serve.{requestOf}
-use Rattle.epmd.specs.Serve as mapper
+use Rattle.wire.specs.Output.{written}
+use Rattle.epmd_rules.specs.State.{Registry}
+use Rattle.epmd_rules.specs.Registry.{newOf}
+use Rattle.epmd_rules.specs.Serve.{requestOf}
+use Rattle.epmd_rules.specs.Requests.{room}
+use Rattle.epmd_rules.specs.Serve as mapper
 use Rattle.script_lines.specs.declared.line.Item.{Item}
 use Rattle.script_lines.specs.declared.line.Item.the-variants.{Op, Conn, Hex, Malformed}
 use Rattle.script_lines.specs.declared.script.Awaits.{Awaits}
 use Rattle.script_lines.specs.declared.script.Awaits.the-variants.{Operation, Connection, Frame, Nothing}
 use Rattle.script_lines.specs.declared.script.Plan.{Plan}
 use Rattle.script_lines.specs.declared.script.Plan.the-variants.{Await, Serve, Fail, Rest}
-use Rattle.script_lines.specs.declared.script.Script.{Script}
 use Rattle.script_lines.specs.declared.script.Stepped.{Stepped}
+use Rattle.script_lines.specs.State.{Script, scriptIn}
 use Rattle.script_lines.specs.Line.{itemOf, frameOf}
 use Rattle.script_lines.specs.Answer.{answerText, resultNumber}
 
@@ -48,36 +51,47 @@ hasEnded Connection = false
 hasEnded (Frame c) = false
 hasEnded Nothing = true
 
--- what a step hands back, and the bytes that it writes
+-- the run after a step, and the bytes that it writes
 pub record Outcome : Type 0 where
   pub script : Script
   pub bytes : List ℕ
 
-abbrev pub told : Outcome → Stepped
-told o = record { script = o .script; written = length (o .bytes) }
+-- the step comes to this outcome: it tells the line that is awaited next and the count written, leaves the registry in its bytes, and writes at the
+-- front of the output
+pub record Steps (o : Outcome) (told : Stepped) (registry out out' : List ℕ) : Type 0 where
+  pub script : scriptIn (told .awaits) registry ≡ o .script
+  pub count : told .written ≡ length (o .bytes)
+  pub output : out' ≡ written (o .bytes) out
 
 -- the mapper's answer to a frame
 abbrev pub answered : mapper.Outcome → Outcome
 answered o = record { script = record { registry = o .registry; awaits = Operation }; bytes = answerText (resultNumber (o .answer)) (o .bytes) }
 
 -- "prints `result=19` and `hex=` and ends the run; 19 is the script's own number"
+abbrev pub failure : List ℕ
+failure = answerText 19 []
+
 abbrev pub failed : Registry → Outcome
-failed r = record { script = record { registry = r; awaits = Nothing }; bytes = answerText 19 [] }
+failed r = record { script = record { registry = r; awaits = Nothing }; bytes = failure }
 
 -- nothing is printed
 abbrev pub quiet : Registry → Awaits → Outcome
 quiet r a = record { script = record { registry = r; awaits = a }; bytes = [] }
 
--- the mapper is lent 17,604 bytes, which is what it asks for
+-- the mapper is lent as many bytes as it asks for
 abbrev pub outcomeOf : Script → List ℕ → Plan → Outcome
 outcomeOf s l (Await a) = quiet (s .registry) a
-outcomeOf s l (Serve c) = answered (requestOf (s .registry) c (frameOf l) 17604)
+outcomeOf s l (Serve c) = answered (requestOf (s .registry) c (frameOf l) room)
 outcomeOf s l Fail = failed (s .registry)
 outcomeOf s l Rest = quiet (s .registry) (s .awaits)
 
 -- a line, without its newline
 unfoldable pub lineOf : Script → List ℕ → Outcome
 lineOf s l = outcomeOf s l (planOf (s .awaits) (itemOf l))
+
+-- what the input's end prints, by the line that is awaited
+abbrev pub ending : Awaits → List ℕ
+ending a = cond (insideGroup a) failure []
 
 -- the input's end
 unfoldable pub endOf : Script → Outcome

@@ -1,17 +1,20 @@
 // Scripts for the mapper (01, The script program): a line to an item, a group of three lines to a
 // call, hexadecimal and decimal text both ways, and the lines of the answer.
 //
-// A run's state is a `Script`, which goes into each step and comes back from it. What an input
-// prints is said whole in specs/Lines. A `requires` here is one that our own program meets.
+// A run's state is the line that it awaits and a registry in lent bytes. What an input prints is said
+// whole in specs/Lines, and `finish` cites it. A `requires` here is one that our own program meets.
 mod answer;
 mod gather;
 mod line;
+mod run;
 mod script;
 mod text;
 
 pub use line::Item;
 pub use line::item_of;
-pub use script::Awaits;
-pub use script::Script;
-pub use script::Stepped;
-pub use script::Taken;
+pub use run::run as run_script;
+
+// How many bytes an answer takes at most (a NAMES reply), and how many characters of a line are held.
+pub(crate) const ANSWER: usize = 14 + 2 * epmd_messages::replies::ROOM;
+
+pub(crate) const HELD: usize = 801;

@@ -8,12 +8,12 @@ use Rattle.wire.specs.Lookup.{firstAt}
 use Rattle.names.specs.Utf8.{lead, run, utf8}
 use Rattle.names.specs.Node.{lacks, nodeName}
 use Rattle.names.specs.Held.{nameOf, nameBytes}
-use Rattle.epmd.specs.Registration.{extraOf, extraBytes, free, isFree, hasName, hasConnection}
-use Rattle.epmd.specs.Registry.{fresh, newOf, byName, byConnection, lowestFree, stepped, filled, entryAt}
-use Rattle.epmd.specs.Requests.{isWithheld, versionsOk, examineOf}
-use Rattle.epmd.specs.Replies.{alive2Reply, port2Found, port2Reply}
-use Rattle.epmd.specs.Serve.{resultOf, registrationOf, alive2Of, port2Of, requestOf}
-use Rattle.handshake.specs.Messages.{nameMessage, statusMessage}
+use Rattle.epmd_rules.specs.Registration.{extraOf, extraBytes, free, isFree, hasName, hasConnection}
+use Rattle.epmd_rules.specs.Registry.{fresh, newOf, byName, byConnection, lowestFree, stepped, filled, entryAt}
+use Rattle.epmd_rules.specs.Requests.{isWithheld, versionsOk, examineOf}
+use Rattle.epmd_rules.specs.Replies.{alive2Reply, port2Found, port2Reply}
+use Rattle.epmd_rules.specs.Serve.{resultOf, registrationOf, alive2Of, port2Of, requestOf}
+use Rattle.handshake_rules.specs.Messages.{nameMessage, statusMessage}
 use Rattle.worked.specs.Frames.{Worked}
 
 pub worked : Worked

@@ -5,13 +5,16 @@ use mathlib.Core.List.{List, [], _∷_, map}
 use lib.IntN.{ℤ, pos, negsuc}
 use Rattle.wire.specs.Run.{order, orderNumber}
 use Rattle.wire.specs.Decimal.{decimal}
-use Rattle.epmd.specs.declared.registry.Registry.{Registry}
-use Rattle.epmd.specs.Registry.{newOf}
-use Rattle.epmd.specs.Serve.{requestOf}
-use Rattle.handshake.specs.Messages.{nameMessage, statusMessage, ok}
+use Rattle.epmd_rules.specs.State.{Registry}
+use Rattle.epmd_rules.specs.Registry.{newOf}
+use Rattle.epmd_rules.specs.Requests.{room}
+use Rattle.epmd_rules.specs.Answers.{numbersOf}
+use Rattle.epmd_rules.specs.Serve.{Outcome, requestOf}
+use Rattle.handshake_rules.specs.Messages.{nameMessage, statusMessage, ok}
 
--- what a case gives: bytes, or the number of a comparison
+-- what a case gives: a reply with the refusal and the count that are told, bytes, or the number of a comparison
 pub data Value : Type 0 where
+  replied : (refusal count : ℕ) → List ℕ → Value
   bytes : List ℕ → Value
   number : ℤ → Value
 
@@ -38,11 +41,14 @@ abbrev pub before : Registry
 before = newOf 4369 4 .registry
 
 abbrev pub after : Registry
-after = requestOf before 1 alive2 17604 .registry
+after = requestOf before 1 alive2 room .registry
 
 -- the reply to a frame from a connection
+abbrev pub told : Outcome → Value
+told o = replied (numbersOf (o .answer) .refusal) (numbersOf (o .answer) .written) (o .bytes)
+
 abbrev pub reply : Registry → ℕ → List ℕ → Value
-reply r connection frame = bytes (requestOf r connection frame 17604 .bytes)
+reply r connection frame = told (requestOf r connection frame room)
 
 -- ---- the names of C5, C7 and C8
 
@@ -63,16 +69,16 @@ b-at-a = 0x62 ∷ 0x40 ∷ 0x61 ∷ []
 abbrev pub cases : List Case
 cases =
     -- C1: ALIVE2 (ride, port 4370), next creation 4
-    record { computed = reply before 1 alive2; paper = bytes (0x76 ∷ 0x00 ∷ 0x00 ∷ 0x00 ∷ 0x00 ∷ 0x04 ∷ []) }
+    record { computed = reply before 1 alive2; paper = replied 0 6 (0x76 ∷ 0x00 ∷ 0x00 ∷ 0x00 ∷ 0x00 ∷ 0x04 ∷ []) }
     -- C2: then asked for ride
     ∷ record {
       computed = reply after 2 asksRide;
-      paper = bytes (0x77 ∷ 0x00 ∷ 0x11 ∷ 0x12 ∷ 0x4d ∷ 0x00 ∷ 0x00 ∷ 0x06 ∷ 0x00 ∷ 0x05 ∷ 0x00 ∷ 0x04 ∷ 0x72 ∷ 0x69 ∷ 0x64 ∷ 0x65 ∷ 0x00 ∷ 0x00 ∷ []);
+      paper = replied 0 18 (0x77 ∷ 0x00 ∷ 0x11 ∷ 0x12 ∷ 0x4d ∷ 0x00 ∷ 0x00 ∷ 0x06 ∷ 0x00 ∷ 0x05 ∷ 0x00 ∷ 0x04 ∷ 0x72 ∷ 0x69 ∷ 0x64 ∷ 0x65 ∷ 0x00 ∷ 0x00 ∷ []);
     }
     -- C3: asked for an unknown name
-    ∷ record { computed = reply after 2 asksUnknown; paper = bytes (0x77 ∷ 0x01 ∷ []) }
+    ∷ record { computed = reply after 2 asksUnknown; paper = replied 0 2 (0x77 ∷ 0x01 ∷ []) }
     -- C4: C1 again on another connection
-    ∷ record { computed = reply after 2 alive2; paper = bytes (0x76 ∷ 0x01 ∷ 0x00 ∷ 0x00 ∷ 0x00 ∷ 0x00 ∷ []) }
+    ∷ record { computed = reply after 2 alive2; paper = replied 0 6 (0x76 ∷ 0x01 ∷ 0x00 ∷ 0x00 ∷ 0x00 ∷ 0x00 ∷ []) }
     -- C5: name message of a@b, flags 16#1000104, creation 7
     ∷ record {
       computed = bytes (nameMessage 0x1000104 7 a-at-b);

@@ -4,7 +4,8 @@ ghost use Prim.Native.Nat.{_≤_};
 use crate::ask;
 use crate::print::first;
 use crate::print::word;
-use epmd::Registry;
+use epmd_messages::replies::ROOM;
+use epmd_state::layout::SIZE;
 
 fn digit(n: usize) -> u8 {
     (48 + n % 10) as u8
@@ -30,41 +31,41 @@ fn alive2(nlen: usize, elen: usize, number: usize) -> [u8; 400]
 fn show_lengths(nlen: usize, elen: usize)
     requires { ⌜ (nlen ≤ 256) × (elen ≤ 129) ⌝ }
 {
-    let made = Registry::new(4369, 1);
+    let mut state = [0u8; SIZE];
+    epmd::make(&mut state, 4369, 1);
     let frame = alive2(nlen, elen, 0);
-    ask(made.registry, 1, first(&frame, 15 + nlen + elen));
+    ask(&mut state, 1, first(&frame, 15 + nlen + elen));
 }
 
 // Registers a name and a connection, both told by a number.
-fn register(r: Registry, number: usize) -> Registry
+fn register(state: &mut [u8; SIZE], number: usize)
     requires { ⌜ number ≤ 64 ⌝ }
 {
     let frame = alive2(4, 0, number);
-    let mut out = [0u8; 17604];
-    let served = r.request(number as u32, first(&frame, 19), &mut out);
-    served.registry
+    let mut out = [0u8; ROOM];
+    epmd::request(state, number as u32, first(&frame, 19), &mut out);
 }
 
-// The mapper after this many registrations.
-fn registered(many: usize) -> Registry
+// A mapper with this many registrations.
+fn make_with(state: &mut [u8; SIZE], many: usize)
     requires { ⌜ many ≤ 64 ⌝ }
 {
-    let made = Registry::new(4369, 1);
-    let mut r = made.registry;
+    epmd::make(state, 4369, 1);
     let mut i: usize = 0;
     while i < many {
-        r = register(r, i);
+        register(state, i);
         i += 1;
     }
-    r
 }
 
 // One registration more.
 fn show_next(many: usize)
     requires { ⌜ many ≤ 64 ⌝ }
 {
+    let mut state = [0u8; SIZE];
+    make_with(&mut state, many);
     let frame = alive2(4, 0, many);
-    ask(registered(many), many as u32, first(&frame, 19));
+    ask(&mut state, many as u32, first(&frame, 19));
 }
 
 pub(crate) fn show_bounds() {

@@ -2,9 +2,9 @@
 // number that it gives. stdout was written by hand from 01. That C1 to C9 hold of
 // the definitions is a theorem of `worked`.
 use bounds::show_bounds;
-use epmd::Answer;
-use epmd::Registry;
-use handshake::Endpoint;
+use epmd_messages::replies::ROOM;
+use epmd_state::layout::SIZE;
+use handshake::SIZE as ENDPOINT;
 use print::bytes;
 use print::first;
 use print::word;
@@ -12,45 +12,45 @@ use print::word;
 mod bounds;
 mod print;
 
-// Puts a frame to the mapper, prints the reply or the refusal, and hands the mapper back.
-pub(crate) fn ask(r: Registry, connection: u32, frame: &[u8]) -> Registry {
-    let mut out = [0u8; 17604];
-    let served = r.request(connection, frame, &mut out);
-    let answer = served.answer;
-    match answer {
-        Answer::Written(n) => bytes(first(&out, n)),
-        Answer::Refused(why) => print::refusal(epmd::number_of(why)),
+// Puts a frame to the mapper, and prints the reply or the refusal.
+pub(crate) fn ask(state: &mut [u8; SIZE], connection: u32, frame: &[u8]) {
+    let mut out = [0u8; ROOM];
+    let answer = epmd::request(state, connection, frame, &mut out);
+    let told = answer.numbers();
+    if told.refusal == 0 {
+        bytes(first(&out, told.written));
+    } else {
+        print::refusal(told.refusal);
     }
-    served.registry
 }
 
 // C1 to C4, on one mapper: the frame of C1 and C4 is ALIVE2 of ride, port 4370.
 fn show_mapper(alive2: &[u8]) {
-    let made = Registry::new(4369, 4);
+    let mut state = [0u8; SIZE];
+    epmd::make(&mut state, 4369, 4);
     word(b"C1: ");
-    let one = ask(made.registry, 1, alive2);
+    ask(&mut state, 1, alive2);
     word(b"C2: ");
-    let two = ask(one, 2, b"\x00\x05zride");
+    ask(&mut state, 2, b"\x00\x05zride");
     word(b"C3: ");
-    let three = ask(two, 2, b"\x00\x03zno");
+    ask(&mut state, 2, b"\x00\x03zno");
     word(b"C4: ");
-    ask(three, 2, alive2);
+    ask(&mut state, 2, alive2);
 }
 
 // C5: what a@b writes when it starts towards b@b. C6: what b@b writes first when it gets that.
 fn show_messages() {
-    let a = Endpoint::new(b"a@b", 0x1000104, 7);
-    let b = Endpoint::new(b"b@b", 0x1000104, 8);
+    let mut a = [0u8; ENDPOINT];
+    let mut b = [0u8; ENDPOINT];
     let mut out = [0u8; 300];
-    let starting = a.endpoint;
-    starting.start(b"b@b", &mut out);
+    let mut back = [0u8; 300];
+    handshake::calls::make(&mut a, b"a@b", 0x1000104, 7);
+    handshake::calls::make(&mut b, b"b@b", 0x1000104, 8);
+    handshake::calls::start(&mut a, b"b@b", &mut out);
     word(b"C5: ");
     bytes(first(&out, 20));
-    let arriving = b.endpoint;
-    let told = arriving.arrive();
-    let arrived = told.endpoint;
-    let mut back = [0u8; 300];
-    arrived.message(0, first(&out, 20), 9, b"", b"cookie", &mut back);
+    handshake::calls::arrive(&mut b);
+    handshake::calls::message(&mut b, 0, first(&out, 20), 9, b"", b"cookie", &mut back);
     word(b"C6: ");
     bytes(first(&back, 5));
 }

@@ -1,9 +1,7 @@
-//! A whole handshake of both sides against the independent implementation and against a copy of the state.
+//! A whole handshake of both sides against the independent implementation.
 
-use crate::timing::{copy, row, Contender};
-use std::hint::black_box;
+use crate::timing::{row, Contender};
 
-const STATE: usize = 9_232;
 const FLAGS: u64 = 0x100_0104;
 
 /// Name, status, challenge, reply and acknowledgement, from start and arrive to connected, and both closed:
@@ -53,8 +51,6 @@ pub fn handshake() {
     let mut to_b = [0xa5; birkenschuh::ENDPOINT_OUTPUT];
     let mut to_a = to_b;
     let (mut to_d, mut to_c) = (to_b, to_b);
-    let state = vec![1; STATE];
-    let mut other = vec![0; STATE];
     row(
         "whole handshake, both sides: nine calls",
         &mut [
@@ -65,10 +61,6 @@ pub fn handshake() {
             Contender {
                 name: "independent implementation",
                 run: &mut || handshake!(model, c, d, to_d, to_c),
-            },
-            Contender {
-                name: "nine memcpy of the state, 9,232 bytes",
-                run: &mut || (0..9).for_each(|_| copy(black_box(&state), &mut other)),
             },
         ],
     );

@@ -1,6 +1,7 @@
 //! One table: the proved library beside its peers. Same input, same run; a ratio above 1 is slower than
 //! the peer. What the buffers held before is said in docs/PERFORMANCE.md.
 
+mod calls;
 mod digests;
 mod handshake;
 mod mapper;
@@ -13,4 +14,5 @@ fn main() {
     digests::names();
     mapper::mapper();
     handshake::handshake();
+    calls::calls();
 }

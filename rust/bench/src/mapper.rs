@@ -1,9 +1,7 @@
-//! The mapper's requests against the independent implementation and against a copy of the state.
+//! The mapper's requests against the independent implementation.
 
-use crate::timing::{copy, row, Contender};
+use crate::timing::{row, Contender};
 use std::hint::black_box;
-
-const STATE: usize = 25_864;
 
 fn frame(body: &[u8]) -> Vec<u8> {
     let mut frame = (body.len() as u16).to_be_bytes().to_vec();
@@ -29,7 +27,8 @@ fn filled(names: &[Vec<u8>], out: &mut [u8]) -> (birkenschuh::Registry, model::R
     let mut peer = model::Registry::new(4369, 1).expect("1 is a creation");
     for (i, name) in names.iter().enumerate() {
         let request = alive2(name);
-        assert_eq!(ours.request(i as u32, &request, out), Ok(6));
+        let reply = ours.request(i as u32, &request, out);
+        assert_eq!(reply.map(|reply| reply.written), Ok(6));
         assert_eq!(peer.request(i as u32, &request, out), Ok(6));
     }
     (ours, peer)
@@ -41,12 +40,11 @@ fn requests(case: &str, names: &[Vec<u8>], request: &[u8], close: bool) {
     let mut peer_out = out.clone();
     let (mut ours, mut peer) = filled(names, &mut out);
     let told = ours.request(99, request, &mut out).ok();
+    let told = told.map(|reply| reply.written);
     assert_eq!(peer.request(99, request, &mut peer_out).ok(), told);
     assert_eq!(out[..told.unwrap_or(0)], peer_out[..told.unwrap_or(0)]);
     assert_eq!(ours.close(99), close);
     assert_eq!(peer.close(99), close);
-    let state = vec![1; STATE];
-    let mut other = vec![0; STATE];
     row(
         case,
         &mut [
@@ -67,10 +65,6 @@ fn requests(case: &str, names: &[Vec<u8>], request: &[u8], close: bool) {
                         black_box(peer.close(99));
                     }
                 },
-            },
-            Contender {
-                name: "memcpy of the state, 25,864 bytes",
-                run: &mut || copy(black_box(&state), &mut other),
             },
         ],
     );
@@ -110,5 +104,14 @@ pub fn mapper() {
         false,
     );
     requests("NAMES, 64 of 255 bytes", &names, &frame(&[110]), false);
+    let inside = |i: usize| format!("{:n>126}{i:02}{:n>127}", "", "").into_bytes();
+    let names: Vec<Vec<u8>> = (0..64).map(inside).collect();
+    requests(
+        "PORT_PLEASE2, last of 64 of 255 bytes that differ in the middle",
+        &names,
+        &port_please2(&names[63]),
+        false,
+    );
     requests("refused: no frame", &[], &[0, 2, 110], false);
+    requests("refused: a bad name", &names, &port_please2(b"a@b"), false);
 }

@@ -50,17 +50,26 @@ pub fn race(contenders: &mut [Contender]) -> Vec<f64> {
 pub fn row(case: &str, contenders: &mut [Contender]) {
     let best = race(contenders);
     for (contender, time) in contenders.iter().zip(&best).skip(1) {
-        println!(
-            "| {case} | {:.0} | {} | {time:.0} | {:.2} |",
-            best[0],
-            contender.name,
-            best[0] / time
-        );
+        print(case, best[0], contender.name, *time);
     }
 }
 
-/// Bytes copied as a struct is, so that nothing is left out by the compiler.
-pub fn copy(from: &[u8], to: &mut [u8]) {
-    to.copy_from_slice(from);
-    std::hint::black_box(to);
+/// Prints a line of the table.
+pub fn print(case: &str, ours: f64, peer: &str, time: f64) {
+    let ratio = ours / time;
+    println!("| {case} | {ours:.0} | {peer} | {time:.0} | {ratio:.2} |");
+}
+
+/// The same for times that were taken singly: below ten nanoseconds they are the clock's noise, and
+/// have no ratio.
+pub fn print_single(case: &str, ours: f64, peer: &str, time: f64) {
+    let shown = |time: f64| match time < 10.0 {
+        true => "below 10".to_string(),
+        false => format!("{time:.0}"),
+    };
+    if ours.min(time) < 10.0 {
+        println!("| {case} | {} | {peer} | {} | |", shown(ours), shown(time));
+    } else {
+        print(case, ours, peer, time);
+    }
 }

@@ -5,7 +5,7 @@ use std::io::{self, Write};
 use std::net::{Shutdown, SocketAddr, TcpStream};
 use std::time::Instant;
 
-use birkenschuh::{Refusal, Registration};
+use birkenschuh::Refusal;
 
 use crate::input::{Budget, Input};
 use crate::sys::{self, ENDED, READABLE, WRITABLE};
@@ -24,11 +24,23 @@ pub struct Connection {
     unsent: Vec<u8>,
     /// Closed as soon as nothing is unsent.
     pub closes: bool,
-    pub node: Option<Registration>,
-    /// When it is closed, unless it has registered a node.
+    pub node: Option<Node>,
+    /// How many ALIVE2 requests got a Result above 0.
+    pub failures: u8,
+    /// When it is closed, unless it has registered a node. Runs from the opening, and nothing
+    /// prolongs it.
     pub deadline: Instant,
+    /// Its registration waits for a creation; nothing is read meanwhile.
+    pub held: bool,
     /// What it waits for in the poll, nothing if it is not there.
     pub waits_for: u32,
+}
+
+/// What a connection has registered.
+pub struct Node {
+    pub name: Vec<u8>,
+    pub port: u16,
+    pub creation: u32,
 }
 
 /// Why a connection was closed.
@@ -40,6 +52,12 @@ pub enum Why {
     Refused(Refusal),
     TimedOut,
     NoMemory,
+    /// All connections were taken, and another came.
+    MadeRoom,
+    /// Only callers on this machine may register.
+    NotLocal,
+    /// No creation is reserved on disk.
+    NoCreation,
 }
 
 impl Connection {
@@ -59,7 +77,9 @@ impl Connection {
             unsent: Vec::new(),
             closes: false,
             node: None,
+            failures: 0,
             deadline,
+            held: false,
             waits_for: 0,
         }
     }
@@ -105,10 +125,15 @@ impl Connection {
     /// end is the node's.
     pub fn interest(&self) -> u32 {
         match (self.all_sent(), &self.node) {
+            (true, _) if self.held => ENDED,
             (true, _) => READABLE,
             (false, None) => WRITABLE,
             (false, Some(_)) => WRITABLE | ENDED,
         }
+    }
+
+    pub fn has_node(&self, name: &[u8]) -> bool {
+        self.node.as_ref().is_some_and(|node| node.name == name)
     }
 
     /// Whether there is nothing left to read but the end.
@@ -123,6 +148,7 @@ impl Connection {
     pub fn state(&self) -> &'static str {
         match (self.all_sent(), self.input.is_empty()) {
             (false, _) => "reply not read",
+            (true, _) if self.held => "waits for a creation",
             (true, false) => "frame not complete",
             (true, true) => "no request",
         }
@@ -137,5 +163,49 @@ fn written(result: io::Result<usize>) -> Result<usize, Why> {
             io::ErrorKind::WouldBlock | io::ErrorKind::Interrupted => Ok(0),
             _ => Err(Why::Failed(error)),
         },
+    }
+}
+
+#[cfg(test)]
+mod tests {
+    use super::*;
+    use std::io::Read;
+    use std::net::TcpListener;
+
+    /// A peer that reads nothing until there is no room for it, and then reads all.
+    #[test]
+    fn what_the_peer_has_no_room_for_is_kept_and_sent_later() {
+        let listener = TcpListener::bind("127.0.0.1:0").unwrap();
+        let mut peer = TcpStream::connect(listener.local_addr().unwrap()).unwrap();
+        let (stream, address) = listener.accept().unwrap();
+        stream.set_nonblocking(true).unwrap();
+        let mut filler = 0;
+        while let Ok(count) = (&stream).write(&[b'f'; 4096]) {
+            filler += count;
+        }
+        let mut it = Connection::new(stream, address, 1, 0, Instant::now());
+        let reply: Vec<u8> = (0..17_604).map(|at| at as u8).collect();
+        let mut budget = Budget::new(20_000);
+        it.send(&reply, &mut budget).unwrap();
+        assert!(!it.all_sent() && it.borrowed() > 0);
+        assert_eq!((it.state(), it.interest()), ("reply not read", WRITABLE));
+        assert!(!budget.take(20_000));
+        let mut taken = vec![0; filler];
+        peer.read_exact(&mut taken).unwrap();
+        let mut rest = vec![0; reply.len()];
+        let reader = std::thread::spawn(move || {
+            peer.read_exact(&mut rest).unwrap();
+            (peer, rest)
+        });
+        while !it.all_sent() {
+            it.send_rest(&mut budget).unwrap();
+        }
+        let (_peer, rest) = reader.join().unwrap();
+        assert_eq!(rest, reply);
+        assert!(budget.take(20_000), "all of it is given back");
+        // A second reply finds no memory if the others hold it all.
+        while (&it.stream).write(&[b'f'; 4096]).is_ok() {}
+        let outcome = it.send(&reply, &mut Budget::new(0));
+        assert!(matches!(outcome, Err(Why::NoMemory)));
     }
 }

@@ -1,9 +1,12 @@
 //! Log lines on standard output: for people (`registered name=a port=35219 ...`) or as JSON, from
 //! the same fields.
 
-use std::io::{self, Write};
+use std::io;
+use std::time::{Duration, Instant};
 
 use crate::clock;
+use crate::limiter::{LeftOut, Limiter};
+use crate::writer::Writer;
 
 #[derive(Clone, Copy)]
 pub enum Value<'a> {
@@ -14,26 +17,81 @@ pub enum Value<'a> {
 }
 
 pub struct Log {
-    pub json: bool,
-    pub quiet: bool,
+    json: bool,
+    quiet: bool,
+    limiter: Limiter,
+    writer: Writer,
 }
 
+/// How long the end of the program waits for the reader of its log.
+const FAREWELL: Duration = Duration::from_millis(500);
+
 impl Log {
-    /// Writes one line. A log that cannot be written is no reason to stop serving.
-    pub fn line(&self, event: &str, fields: &[(&str, Value)]) {
-        if !self.quiet {
-            self.line_even_if_quiet(event, fields);
+    pub fn new(json: bool, quiet: bool) -> io::Result<Log> {
+        let tell = move |lines| line(json, "dropped", &[("lines", Value::Number(lines))]);
+        Ok(Log {
+            json,
+            quiet,
+            limiter: Limiter::default(),
+            writer: Writer::to_stdout(tell)?,
+        })
+    }
+
+    /// Says one line, unless there were too many of its kind.
+    pub fn line(&mut self, event: &'static str, fields: &[(&str, Value)]) {
+        if self.admits(event) {
+            self.say(event, fields);
         }
     }
 
-    pub fn line_even_if_quiet(&self, event: &str, fields: &[(&str, Value)]) {
-        let line = if self.json {
-            json_line(&clock::stamp(), event, fields)
-        } else {
-            text_line(&clock::stamp(), event, fields)
-        };
-        let mut out = io::stdout().lock();
-        let _ = out.write_all(line.as_bytes()).and_then(|()| out.flush());
+    /// Whether a line about `event` is to be said; if not, it is counted. For those who would not
+    /// gather the fields of a line for nothing.
+    pub fn admits(&mut self, event: &'static str) -> bool {
+        !self.quiet && self.limiter.admits(event, Instant::now())
+    }
+
+    /// Says a line that is admitted, or that counts even if the log is quiet. A log that cannot be
+    /// written is no reason to stop serving.
+    pub fn say(&self, event: &str, fields: &[(&str, Value)]) {
+        self.writer.push(&line(self.json, event, fields));
+    }
+
+    /// When `tell_left_out` has something to tell.
+    pub fn due(&self) -> Option<Instant> {
+        self.limiter.due()
+    }
+
+    /// How many lines of each kind were left out. A count that does not fit is kept for the next
+    /// time.
+    pub fn tell_left_out(&mut self, now: Instant) {
+        for it in self.limiter.take_due(now) {
+            if !self.tell(&it) {
+                self.limiter.put_back(&it);
+            }
+        }
+    }
+
+    /// Tells what is untold and waits a moment for the reader.
+    pub fn end(&mut self) {
+        for it in self.limiter.take_all(Instant::now()) {
+            self.tell(&it);
+        }
+        self.writer.flush(FAREWELL);
+    }
+
+    fn tell(&self, it: &LeftOut) -> bool {
+        let fields = [
+            ("kind", Value::Text(it.event)),
+            ("lines", Value::Number(it.lines)),
+        ];
+        self.writer.offer(&line(self.json, "left-out", &fields))
+    }
+}
+
+fn line(json: bool, event: &str, fields: &[(&str, Value)]) -> String {
+    match json {
+        true => json_line(&clock::stamp(), event, fields),
+        false => text_line(&clock::stamp(), event, fields),
     }
 }
 
@@ -94,6 +152,8 @@ pub fn json_text(text: &str) -> String {
 #[cfg(test)]
 mod tests {
     use super::*;
+    use std::io::{BufRead, BufReader, Read};
+    use std::os::unix::net::UnixStream;
 
     const FIELDS: [(&str, Value); 3] = [
         ("name", Value::Name("a\n\"é".as_bytes())),
@@ -111,6 +171,35 @@ mod tests {
             json_line("T", "registered", &FIELDS),
             "{\"time\":\"T\",\"event\":\"registered\",\"name\":\"a\\n\\\"é\",\"port\":4370,\"peer\":\"[::1]:9\"}\n"
         );
+    }
+
+    /// Nobody reads, so there is no room for the count: it is told once there is.
+    #[test]
+    fn a_count_that_does_not_fit_is_told_later() {
+        let (mut reader, into) = UnixStream::pair().unwrap();
+        let mut log = Log {
+            json: false,
+            quiet: false,
+            limiter: Limiter::default(),
+            writer: Writer::new(into, |_| String::new()).unwrap(),
+        };
+        for _ in 0..60 {
+            log.admits("refused");
+        }
+        let after = |seconds| Instant::now() + Duration::from_secs(seconds);
+        while log.writer.offer("x\n") {}
+        log.writer.flush(Duration::from_millis(50));
+        while log.writer.offer("x\n") {}
+        log.tell_left_out(after(1));
+        assert!(log.due().is_some());
+        let mut part = [0; 65_536];
+        while !log.writer.offer("y\n") {
+            let _count = reader.read(&mut part).unwrap();
+        }
+        log.tell_left_out(after(3));
+        assert_eq!(log.due(), None);
+        let mut lines = BufReader::new(reader).lines().map_while(Result::ok);
+        assert!(lines.any(|it| it.contains(" left-out kind=refused lines=10")));
     }
 
     #[test]

@@ -1,17 +1,27 @@
 //! `birken-epmd`: an Erlang port mapper (EPMD) for real nodes. What it answers is decided by the
 //! proved mapper of the crate `birkenschuh`; here are the sockets, the clock and the log.
 
+mod callers;
 mod clock;
 mod connection;
+mod creations;
+mod door;
 mod input;
 mod limiter;
+mod listen;
 mod log;
 mod mapper;
+mod mark;
 mod names;
 mod options;
+mod order;
+mod reserve;
+mod say;
 mod server;
+mod start;
 mod sys;
 mod table;
+mod writer;
 
 use std::env;
 use std::io::{self, Write};
@@ -21,7 +31,8 @@ use options::{Options, Task};
 
 fn main() -> ExitCode {
     let words = env::args_os().skip(1);
-    let task = options::parse(words.map(|word| word.to_string_lossy().into_owned()));
+    let words = words.map(|word| word.to_string_lossy().into_owned());
+    let task = options::parse(words, |name| env::var(name).ok());
     match task {
         Ok(Task::Help) => print(options::HELP),
         Ok(Task::Version) => print(concat!("birken-epmd ", env!("CARGO_PKG_VERSION"), "\n")),
@@ -29,12 +40,13 @@ fn main() -> ExitCode {
             Ok(names) => print(&names),
             Err(error) => fail("cannot ask", &options, &error),
         },
-        Ok(Task::Serve(options)) => {
-            match server::Server::new(&options).and_then(|mut server| server.run()) {
-                Ok(()) => ExitCode::SUCCESS,
-                Err(error) => fail("cannot serve", &options, &error),
+        Ok(Task::Serve(options)) => match start::serve(&options) {
+            Ok(()) => ExitCode::SUCCESS,
+            Err(error) => {
+                eprintln!("birken-epmd: {error}");
+                ExitCode::FAILURE
             }
-        }
+        },
         Err(message) => {
             eprintln!("birken-epmd: {message}");
             ExitCode::from(2)

@@ -1,4 +1,4 @@
-//! The proved mapper with what a host adds to it: who is closed when, and what the log says.
+//! The proved mapper with what a host adds to it: who is closed when, and who may register.
 //!
 //! The mapper is one value and a request takes it some microseconds, so one thread serves all
 //! connections in turn. Threads would only wait for each other at the registry, and could not be
@@ -6,16 +6,21 @@
 
 use std::time::{Duration, Instant};
 
-use birkenschuh::{Refusal, Registry, PLACES, REGISTRY_OUTPUT};
+use birkenschuh::{Asked, Registry, PLACES, REGISTRY_OUTPUT};
 
-use crate::connection::{Connection, Why};
+use crate::callers::Callers;
+use crate::connection::{Connection, Node, Why};
+use crate::creations::{Creations, May};
 use crate::input::{Budget, Filled};
-use crate::log::{Log, Value};
+use crate::log::Log;
 use crate::sys;
 
 /// 64 frames of the greatest length at a time, or 238 unread replies of the greatest length. See
 /// `Budget`.
 const LARGE_BYTES: usize = 4 << 20;
+/// The ALIVE2 with a Result above 0 that is a connection's last. So a connection has three replies
+/// at most, and cannot keep the mapper from others.
+const LAST_FAILURE: u8 = 2;
 
 const ALIVE2_REQ: u8 = 120;
 
@@ -26,39 +31,59 @@ pub enum Next {
     /// A registration found no place. A node that ended before may still hold it: once those are
     /// closed, `answer_all` has the last word.
     SeekEnded,
+    /// A registration has to wait for a creation until then.
+    Hold(Instant),
 }
 
 pub struct Mapper {
     registry: Registry,
+    pub creations: Creations,
     /// How many are registered.
-    nodes: usize,
+    pub nodes: usize,
     out: Box<[u8]>,
     budget: Budget,
-    idle: Duration,
+    pub rules: Rules,
     pub log: Log,
 }
 
+/// What the operator decides.
+pub struct Rules {
+    /// A connection without a node lives no longer.
+    pub idle: Duration,
+    pub callers: Callers,
+}
+
+/// What a request was, and what it got.
+#[derive(Debug, PartialEq, Eq)]
+enum Outcome {
+    Registered,
+    NotRegistered,
+    /// A reply that is the connection's last.
+    Answered,
+}
+
 impl Mapper {
-    pub fn new(registry: Registry, idle: Duration, log: Log) -> Mapper {
+    pub fn new(registry: Registry, creations: Creations, rules: Rules, log: Log) -> Mapper {
         Mapper {
             registry,
+            creations,
             nodes: 0,
             out: vec![0; REGISTRY_OUTPUT].into(),
             budget: Budget::new(LARGE_BYTES),
-            idle,
+            rules,
             log,
         }
-    }
-
-    /// When a connection is closed that from now on completes no request.
-    pub fn deadline(&self, now: Instant) -> Instant {
-        now + self.idle
     }
 
     /// The connection is ready: sends or reads once, and answers what is complete. An error says
     /// why it is to be closed.
     pub fn attend(&mut self, it: &mut Connection, ready: u32, now: Instant) -> Result<Next, Why> {
-        if it.all_sent() {
+        if it.held || !it.all_sent() {
+            if ready & (sys::ENDED | sys::FAILED) != 0 {
+                return Err(Why::Ended);
+            }
+            it.send_rest(&mut self.budget)?;
+        } else {
             match it.input.fill(&mut it.stream, &mut self.budget) {
                 Ok(Filled::Some) => {}
                 Ok(Filled::Nothing) => return Ok(Next::Wait),
@@ -66,11 +91,6 @@ impl Mapper {
                 Ok(Filled::NoMemory) => return Err(Why::NoMemory),
                 Err(error) => return Err(Why::Failed(error)),
             }
-        } else {
-            if ready & (sys::ENDED | sys::FAILED) != 0 {
-                return Err(Why::Ended);
-            }
-            it.send_rest(&mut self.budget)?;
         }
         self.answer_all(it, now, false)
     }
@@ -87,21 +107,24 @@ impl Mapper {
             let Some(frame) = it.input.frame() else {
                 return Ok(Next::Wait);
             };
-            let written = self
+            if wants_to_register(frame) {
+                if let May::Later(time) = self.may_register(it, now)? {
+                    return Ok(Next::Hold(time));
+                }
+            }
+            let reply = self
                 .registry
                 .request(it.slot, frame, &mut self.out)
                 .map_err(Why::Refused)
                 .inspect_err(|why| self.say_refused(it, why))?;
-            match (frame[2], self.out[1]) {
-                (ALIVE2_REQ, 0) => self.registered(it),
-                (ALIVE2_REQ, _) if it.node.is_none() && !sure => return Ok(Next::SeekEnded),
-                (ALIVE2_REQ, _) => self.say_not_registered(it),
-                // The reply of every other request is the connection's last.
-                _ => it.closes = true,
+            match outcome(reply.asked) {
+                Outcome::Registered => self.registered(it),
+                Outcome::NotRegistered if it.node.is_none() && !sure => return Ok(Next::SeekEnded),
+                Outcome::NotRegistered => self.not_registered(it),
+                Outcome::Answered => it.closes = true,
             }
-            it.send(&self.out[..written], &mut self.budget)?;
+            it.send(&self.out[..reply.written], &mut self.budget)?;
             it.input.drop_frame(&mut self.budget);
-            it.deadline = self.deadline(now);
         }
         match it.all_sent() {
             true => Err(Why::Answered),
@@ -109,104 +132,84 @@ impl Mapper {
         }
     }
 
+    /// Whether a creation may be given to this connection, before the registry gives one.
+    fn may_register(&mut self, it: &Connection, now: Instant) -> Result<May, Why> {
+        if !self.rules.callers.may_register(it.peer, &it.stream) {
+            return Err(Why::NotLocal);
+        }
+        match self.may_give(now) {
+            May::Never => Err(Why::NoCreation),
+            may => Ok(may),
+        }
+    }
+
+    /// Whether a creation may be given; a disk that failed is told of.
+    pub fn may_give(&mut self, now: Instant) -> May {
+        let (may, error) = self.creations.may_give(now);
+        if let Some(error) = error {
+            self.say_disk_failed(&error);
+        }
+        may
+    }
+
+    /// The node whose ALIVE2 stands at the front.
     fn registered(&mut self, it: &mut Connection) {
-        // Without this the node of a machine that vanished would keep its name for ever. A failure
-        // costs only that.
+        // A failure costs only that a vanished machine's node keeps its name for longer.
         let _ = sys::keep_alive(&it.stream);
-        it.node = self
-            .registry
-            .registrations()
-            .find(|node| node.connection == it.slot);
+        let Some(frame) = it.input.frame() else {
+            return;
+        };
+        it.node = Some(Node {
+            name: name(frame).to_vec(),
+            port: u16::from_be_bytes([frame[3], frame[4]]),
+            creation: self.creations.give(),
+        });
+        debug_assert_eq!(self.registry.next_creation(), self.creations.next());
         self.nodes += 1;
         self.say_node("registered", it, None);
+    }
+
+    fn not_registered(&mut self, it: &mut Connection) {
+        it.failures += 1;
+        it.closes = it.failures == LAST_FAILURE;
+        self.say_not_registered(it);
+    }
+
+    /// The name that a connection wants to register, and whether all places are taken.
+    pub fn sought<'a>(&self, it: &'a Connection) -> (&'a [u8], bool) {
+        (it.input.frame().map_or(b"", name), self.nodes >= PLACES)
     }
 
     /// The connection is closed: frees its place and its memory.
     pub fn closed(&mut self, it: &Connection, why: &Why) {
         self.budget.give_back(it.borrowed());
-        match why {
-            Why::Answered => it.finish(),
-            Why::TimedOut => self.say("timed-out", it, &[("state", Value::Text(it.state()))]),
-            Why::NoMemory => self.say("memory-spent", it, &[("state", Value::Text(it.state()))]),
-            _ => {}
+        if let Why::Answered = why {
+            it.finish();
         }
+        self.say_closed(it, why);
         if it.node.is_some() {
             self.registry.close(it.slot);
             self.nodes -= 1;
             self.say_node("left", it, Some(why));
         }
     }
+}
 
-    pub fn say_stopped(&self, signal: &str) {
-        let nodes = self.nodes as u64;
-        let fields = [
-            ("signal", Value::Text(signal)),
-            ("nodes", Value::Number(nodes)),
-        ];
-        self.log.line("stopped", &fields);
-    }
+fn wants_to_register(frame: &[u8]) -> bool {
+    frame.get(2) == Some(&ALIVE2_REQ)
+}
 
-    fn say(&self, event: &str, it: &Connection, fields: &[(&str, Value)]) {
-        let peer = it.peer.to_string();
-        let who = [
-            ("peer", Value::Text(&peer)),
-            ("connection", Value::Number(it.number)),
-        ];
-        self.log.line(event, &[fields, &who].concat());
+/// What the registry did with a request that it did not refuse.
+fn outcome(asked: Asked) -> Outcome {
+    match asked {
+        Asked::Alive2 { result: 0, .. } => Outcome::Registered,
+        Asked::Alive2 { .. } => Outcome::NotRegistered,
+        _ => Outcome::Answered,
     }
+}
 
-    fn say_node(&self, event: &str, it: &Connection, why: Option<&Why>) {
-        let Some(node) = &it.node else { return };
-        let mut fields = vec![
-            ("name", Value::Name(&node.name)),
-            ("port", Value::Number(node.port.into())),
-            ("creation", Value::Number(node.creation.into())),
-        ];
-        let failure;
-        match why {
-            None => {}
-            Some(Why::Failed(error)) => {
-                failure = error.to_string();
-                fields.push(("reason", Value::Text(&failure)));
-            }
-            Some(Why::Answered) => fields.push(("reason", Value::Text("asked on its connection"))),
-            Some(Why::Refused(_)) => fields.push(("reason", Value::Text("refused"))),
-            Some(_) => fields.push(("reason", Value::Text("connection ended"))),
-        }
-        self.say(event, it, &fields);
-    }
-
-    /// An ALIVE2 with Result 1.
-    fn say_not_registered(&self, it: &Connection) {
-        let Some(frame) = it.input.frame() else {
-            return;
-        };
-        let len = usize::from(u16::from_be_bytes([frame[11], frame[12]]));
-        let name = &frame[13..13 + len];
-        let reason = if it.node.is_some() {
-            "this connection has registered a node"
-        } else if self.nodes < PLACES {
-            "the name is registered"
-        } else {
-            "the name is registered, or all 64 places are taken"
-        };
-        let fields = [("name", Value::Name(name)), ("reason", Value::Text(reason))];
-        self.say("not-registered", it, &fields);
-    }
-
-    fn say_refused(&self, it: &Connection, why: &Why) {
-        let (Why::Refused(refusal), Some(frame)) = (why, it.input.frame()) else {
-            return;
-        };
-        let meaning = refusal.to_string();
-        let mut fields = vec![
-            ("refusal", Value::Number(refusal.number().into())),
-            ("meaning", Value::Text(&meaning)),
-            ("length", Value::Number(frame.len() as u64)),
-        ];
-        if *refusal != Refusal::NotAFrame {
-            fields.push(("tag", Value::Number(frame[2].into())));
-        }
-        self.say("refused", it, &fields);
-    }
+/// The name in an ALIVE2 that the registry did not refuse.
+pub fn name(frame: &[u8]) -> &[u8] {
+    let length = usize::from(u16::from_be_bytes([frame[11], frame[12]]));
+    &frame[13..13 + length]
 }

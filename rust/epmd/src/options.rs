@@ -1,11 +1,13 @@
-//! The command line.
+//! The command line, and what counts where it says nothing: ERL_EPMD_PORT, ERL_EPMD_ADDRESS,
+//! LISTEN_FDS and the folders of the user.
 
 use std::fmt::Display;
 use std::net::{IpAddr, Ipv4Addr};
+use std::path::PathBuf;
 use std::str::FromStr;
 use std::time::Duration;
 
-use crate::clock;
+use crate::sys::Keepalive;
 
 pub const HELP: &str = "\
 birken-epmd: an Erlang port mapper (EPMD)
@@ -13,27 +15,53 @@ birken-epmd: an Erlang port mapper (EPMD)
   birken-epmd [OPTIONS]           serve
   birken-epmd --names [OPTIONS]   ask a running mapper for its names
 
-  --address IP            where to listen, or whom to ask (127.0.0.1)
-  --port N                its port (4369); 0 picks one and prints it
-  --first-creation N      creation of the first node to register, 1 to 4294967295 (by the clock)
-  --max-connections N     more than these are closed at once (512)
+  --address IP[,IP]       where to listen besides loopback, or whom to ask; may be given again
+                          (ERL_EPMD_ADDRESS; else 127.0.0.1 and ::1)
+  --port N                its port (ERL_EPMD_PORT; else 4369); 0 picks one and prints it
+  --allow-remote-registration
+                          callers of other machines may register too, not only ask
+  --state-dir PATH        where the mark is kept by which no creation comes again
+                          (STATE_DIRECTORY, XDG_STATE_HOME/birken-epmd, ~/.local/state/birken-epmd)
+  --no-state              no mark: creations by the clock, at most a thousand a second
+  --first-creation N      in place of the clock's number, 1 to 4294967295; a mark ahead of it wins
+  --max-connections N     when these are taken, a caller without a node leaves for the next (512)
   --idle-timeout SECONDS  a connection without a node is closed after these (60)
+  --keepalive-idle, --keepalive-interval SECONDS, --keepalive-count N
+                          a node that is silent for 60 s is asked every 15 s whether it is there,
+                          and is gone after 4 questions without an answer
   --quiet                 no log lines
   --json                  log lines, or names, as JSON
   --help, --version
 
+Sockets that systemd hands over (LISTEN_FDS) take the place of --address and --port.
 SIGTERM and SIGINT end it. Exit status: 0, 1 if it cannot serve or ask, 2 for bad options.
 ";
 
 #[derive(Debug, Clone, PartialEq)]
 pub struct Options {
+    /// Whom `--names` asks.
     pub address: IpAddr,
+    /// Where to listen besides loopback.
+    pub listen: Vec<IpAddr>,
     pub port: u16,
-    pub first_creation: u32,
+    /// How many sockets were handed over by the starter.
+    pub handed_over: u16,
+    pub allow_remote: bool,
+    pub state: State,
+    /// In place of the clock's number.
+    pub first_creation: Option<u32>,
     pub max_connections: usize,
     pub idle_timeout: Duration,
+    pub keepalive: Keepalive,
     pub quiet: bool,
     pub json: bool,
+}
+
+/// Where the mark of creations is kept.
+#[derive(Debug, Clone, PartialEq)]
+pub enum State {
+    Folder(PathBuf),
+    None,
 }
 
 #[derive(Debug, PartialEq)]
@@ -48,24 +76,46 @@ impl Options {
     fn new() -> Options {
         Options {
             address: Ipv4Addr::LOCALHOST.into(),
+            listen: Vec::new(),
             port: 4369,
-            first_creation: clock::first_creation(),
+            handed_over: 0,
+            allow_remote: false,
+            state: State::None,
+            first_creation: None,
             // A registry has 64 nodes; the others are callers that stay for microseconds, or
             // silent. With a few descriptors more this is half of what a process may usually open
             // (1,024).
             max_connections: 512,
             idle_timeout: Duration::from_secs(60),
+            keepalive: Keepalive {
+                idle: 60,
+                interval: 15,
+                count: 4,
+            },
             quiet: false,
             json: false,
         }
     }
 }
 
-/// The task, or what is wrong with the words in one line.
-pub fn parse(words: impl IntoIterator<Item = String>) -> Result<Task, String> {
+/// What the words have set, where an option left out is not its default.
+#[derive(Default)]
+struct Given {
+    names: bool,
+    address: bool,
+    port: bool,
+    state: bool,
+    /// An option that has no meaning for `--names`.
+    for_serving: Option<String>,
+}
+
+/// The task, or what is wrong in one line. `variable` gives a variable of the environment.
+pub fn parse(
+    words: impl IntoIterator<Item = String>,
+    variable: impl Fn(&str) -> Option<String>,
+) -> Result<Task, String> {
     let mut options = Options::new();
-    let mut names = false;
-    let mut for_serving = None;
+    let mut given = Given::default();
     let mut words = words.into_iter();
     while let Some(word) = words.next() {
         let (option, value) = match word.split_once('=') {
@@ -75,28 +125,50 @@ pub fn parse(words: impl IntoIterator<Item = String>) -> Result<Task, String> {
         match (option, &value) {
             ("--help", None) => return Ok(Task::Help),
             ("--version", None) => return Ok(Task::Version),
-            ("--names", None) => names = true,
+            ("--names", None) => given.names = true,
             ("--json", None) => options.json = true,
             ("--quiet", None) => options.quiet = true,
-            ("--address" | "--port", _) => set(&mut options, option, value, &mut words)?,
-            ("--first-creation" | "--max-connections" | "--idle-timeout", _) => {
-                set(&mut options, option, value, &mut words)?;
-                for_serving = Some(option.to_string());
-            }
-            _ => return Err(format!("unknown option {word:?}, see --help")),
+            ("--allow-remote-registration", None) => options.allow_remote = true,
+            ("--no-state", None) => (options.state, given.state) = (State::None, true),
+            ("--allow-remote-registration" | "--no-state", _) => return Err(unknown(&word)),
+            _ if takes_value(option) => set(&mut options, &mut given, option, value, &mut words)?,
+            _ => return Err(unknown(&word)),
+        }
+        if !["--names", "--json", "--quiet", "--address", "--port"].contains(&option) {
+            given.for_serving = Some(option.to_string());
         }
     }
-    match (names, for_serving) {
-        (true, Some(option)) => Err(format!("{option} does not go with --names")),
-        (true, None) if options.port == 0 => Err("--names needs a port to ask".to_string()),
-        (true, None) => Ok(Task::Names(options)),
-        (false, _) => Ok(Task::Serve(options)),
+    let variable = |name: &str| variable(name).filter(|value| !value.is_empty());
+    complete(&mut options, &given, &variable)?;
+    match given.names {
+        true => Ok(Task::Names(options)),
+        false => Ok(Task::Serve(options)),
     }
+}
+
+fn unknown(word: &str) -> String {
+    format!("unknown option {word:?}, see --help")
+}
+
+fn takes_value(option: &str) -> bool {
+    const OPTIONS: [&str; 9] = [
+        "--address",
+        "--port",
+        "--state-dir",
+        "--first-creation",
+        "--max-connections",
+        "--idle-timeout",
+        "--keepalive-idle",
+        "--keepalive-interval",
+        "--keepalive-count",
+    ];
+    OPTIONS.contains(&option)
 }
 
 /// Sets an option whose value stands behind "=" or is the next word.
 fn set(
     options: &mut Options,
+    given: &mut Given,
     option: &str,
     value: Option<String>,
     words: &mut impl Iterator<Item = String>,
@@ -104,109 +176,108 @@ fn set(
     let value = value
         .or_else(|| words.next())
         .ok_or_else(|| format!("{option} needs a value"))?;
-    let bad = |what: &dyn Display| format!("{option} must be {what}, not {value:?}");
+    let value = value.as_str();
     match option {
-        "--address" => options.address = value.parse().map_err(|_| bad(&"an IP address"))?,
-        "--port" => options.port = number(&value, 0..=65_535).map_err(|e| bad(&e))?,
+        "--address" => {
+            options.listen.extend(addresses(option, value)?);
+            given.address = true;
+        }
+        "--port" => (options.port, given.port) = (number(option, value, 0..=65_535)?, true),
+        "--state-dir" if value.is_empty() => return Err(format!("{option} needs a value")),
+        "--state-dir" => (options.state, given.state) = (State::Folder(value.into()), true),
         "--first-creation" => {
-            options.first_creation = number(&value, 1..=u32::MAX).map_err(|e| bad(&e))?
+            options.first_creation = Some(number(option, value, 1..=u32::MAX)?);
         }
-        "--max-connections" => {
-            options.max_connections = number(&value, 1..=1_000_000).map_err(|e| bad(&e))?
-        }
-        _ => options.idle_timeout = seconds(&value).ok_or_else(|| bad(&"0.001 to 86400"))?,
+        "--max-connections" => options.max_connections = number(option, value, 1..=1_000_000)?,
+        "--keepalive-idle" => options.keepalive.idle = number(option, value, 1..=32_767)?,
+        "--keepalive-interval" => options.keepalive.interval = number(option, value, 1..=32_767)?,
+        "--keepalive-count" => options.keepalive.count = number(option, value, 1..=127)?,
+        _ => options.idle_timeout = seconds(option, value)?,
     }
     Ok(())
 }
 
-/// A decimal number in `range`, or how the range reads.
+/// What the environment says where the words do not, and whether all goes together.
+fn complete(
+    options: &mut Options,
+    given: &Given,
+    variable: &impl Fn(&str) -> Option<String>,
+) -> Result<(), String> {
+    if let (false, Some(port)) = (given.port, variable("ERL_EPMD_PORT")) {
+        options.port = number("ERL_EPMD_PORT", &port, 0..=65_535)?;
+    }
+    if given.names {
+        options.address = options.listen.first().copied().unwrap_or(options.address);
+        return match &given.for_serving {
+            Some(option) => Err(format!("{option} does not go with --names")),
+            None if options.listen.len() > 1 => Err("--names asks one address".to_string()),
+            None if options.port == 0 => Err("--names needs a port to ask".to_string()),
+            None => Ok(()),
+        };
+    }
+    if let (false, Some(list)) = (given.address, variable("ERL_EPMD_ADDRESS")) {
+        options.listen = addresses("ERL_EPMD_ADDRESS", &list)?;
+    }
+    if variable("LISTEN_PID").as_deref() == Some(&std::process::id().to_string()) {
+        let count = variable("LISTEN_FDS").unwrap_or_default();
+        options.handed_over = number("LISTEN_FDS", &count, 0..=1_000)?;
+        if options.handed_over > 0 && (given.address || given.port) {
+            let message = "sockets are handed over, so --address and --port have no place";
+            return Err(message.to_string());
+        }
+    }
+    if !given.state {
+        options.state = State::Folder(state_folder(variable)?);
+    }
+    Ok(())
+}
+
+/// Where programs of this user, or this service of the system, keep what is to last.
+fn state_folder(variable: &impl Fn(&str) -> Option<String>) -> Result<PathBuf, String> {
+    let below = |folder: PathBuf| folder.is_absolute().then(|| folder.join("birken-epmd"));
+    let service = variable("STATE_DIRECTORY");
+    let service = service.and_then(|list| list.split(':').next().map(PathBuf::from));
+    let user = || variable("XDG_STATE_HOME").and_then(|it| below(it.into()));
+    let home = || variable("HOME").and_then(|it| below(PathBuf::from(it).join(".local/state")));
+    service
+        .or_else(user)
+        .or_else(home)
+        .ok_or_else(|| "no folder for the state is known: --state-dir or --no-state".to_string())
+}
+
+fn addresses(option: &str, list: &str) -> Result<Vec<IpAddr>, String> {
+    let address = |text: &str| {
+        let text = text.trim();
+        let bad = |_| format!("{option} must be an IP address or some with commas, not {list:?}");
+        text.parse().map_err(bad)
+    };
+    list.split(',').map(address).collect()
+}
+
+/// A decimal number in `range`.
 fn number<T: FromStr + PartialOrd + Display>(
+    option: &str,
     text: &str,
     range: std::ops::RangeInclusive<T>,
 ) -> Result<T, String> {
     match text.parse() {
         Ok(number) if range.contains(&number) => Ok(number),
-        _ => Err(format!("{} to {}", range.start(), range.end())),
+        _ => {
+            let (low, high) = (range.start(), range.end());
+            Err(format!("{option} must be {low} to {high}, not {text:?}"))
+        }
     }
 }
 
-fn seconds(text: &str) -> Option<Duration> {
-    let seconds: f64 = text.parse().ok()?;
-    let good = (0.001..=86_400.0).contains(&seconds);
-    good.then(|| Duration::from_secs_f64(seconds))
+fn seconds(option: &str, text: &str) -> Result<Duration, String> {
+    match text.parse() {
+        Ok(seconds) if (0.001..=86_400.0).contains(&seconds) => {
+            Ok(Duration::from_secs_f64(seconds))
+        }
+        _ => Err(format!("{option} must be 0.001 to 86400, not {text:?}")),
+    }
 }
 
 #[cfg(test)]
-mod tests {
-    use super::*;
-
-    fn parse_line(line: &str) -> Result<Task, String> {
-        parse(line.split_whitespace().map(str::to_string))
-    }
-
-    fn served(line: &str) -> Options {
-        match parse_line(line) {
-            Ok(Task::Serve(options)) => options,
-            other => panic!("{line}: {other:?}"),
-        }
-    }
-
-    #[test]
-    fn defaults_are_those_of_the_help() {
-        let options = served("");
-        assert_eq!(options.address.to_string(), "127.0.0.1");
-        assert_eq!((options.port, options.max_connections), (4369, 512));
-        assert_eq!(options.idle_timeout, Duration::from_secs(60));
-        assert!(options.first_creation > 0 && !options.quiet && !options.json);
-    }
-
-    #[test]
-    fn values_stand_behind_an_equals_sign_or_next() {
-        let words = "--address ::1 --port=0 --first-creation 4294967295 --max-connections=7 \
-                     --idle-timeout 0.25 --quiet --json";
-        let options = served(words);
-        assert_eq!(options.address.to_string(), "::1");
-        assert_eq!((options.port, options.first_creation), (0, u32::MAX));
-        assert_eq!(options.max_connections, 7);
-        assert_eq!(options.idle_timeout, Duration::from_millis(250));
-        assert!(options.quiet && options.json);
-    }
-
-    #[test]
-    fn names_takes_only_what_concerns_it() {
-        let task = parse_line("--names --address 127.0.0.9 --port 14700 --json");
-        assert!(matches!(task, Ok(Task::Names(it)) if it.port == 14_700 && it.json));
-        assert!(parse_line("--names --first-creation 4").is_err());
-        assert!(parse_line("--names --port 0").is_err());
-    }
-
-    #[test]
-    fn bad_words_get_one_line() {
-        for words in [
-            "--prot 4369",
-            "4369",
-            "--port",
-            "--port 65536",
-            "--port -1",
-            "--port x",
-            "--address localhost",
-            "--first-creation 0",
-            "--first-creation 4294967296",
-            "--max-connections 0",
-            "--idle-timeout 0",
-            "--idle-timeout -5",
-            "--idle-timeout NaN",
-            "--idle-timeout inf",
-            "--quiet=yes",
-        ] {
-            let message = parse_line(words).expect_err(words);
-            assert!(!message.is_empty() && !message.contains('\n'), "{message}");
-        }
-    }
-
-    #[test]
-    fn help_and_version_win() {
-        assert_eq!(parse_line("--port 9 --help"), Ok(Task::Help));
-        assert_eq!(parse_line("--version"), Ok(Task::Version));
-    }
-}
+#[path = "options_tests.rs"]
+mod tests;

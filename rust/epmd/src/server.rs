@@ -1,82 +1,64 @@
-//! Sockets: accepting, waiting for all connections at once, closing those that are idle.
+//! Waits for all connections at once, attends to those that are ready, closes those whose time is
+//! over.
 
 use std::collections::VecDeque;
 use std::io;
-use std::net::{SocketAddr, TcpListener, TcpStream};
+use std::net::TcpListener;
 use std::time::{Duration, Instant};
 
-use birkenschuh::Registry;
-
 use crate::connection::Why;
-use crate::limiter::Limiter;
-use crate::log::{Log, Value};
+use crate::creations::May;
+use crate::log::Value;
 use crate::mapper::{Mapper, Next};
-use crate::options::Options;
-use crate::sys::{self, Event, Poll, Signals, READABLE};
-use crate::table::Table;
+use crate::sys::{Event, Poll, Signal, Signals, READABLE};
+use crate::table::{token, Table};
 
-/// Accepted in a turn before the others are looked after again.
-const ACCEPTS: usize = 64;
-/// How many may wait outside.
-const BACKLOG: i32 = 4096;
-/// What the system holds for a connection, each way. The longest reply has 17,604 bytes.
-const BUFFERS: i32 = 32 << 10;
-/// How long nothing is accepted once the system has no descriptor or memory left for a connection.
-const REST: Duration = Duration::from_millis(100);
-/// Tokens of the poll that are no connection's.
-const LISTENER: u64 = u64::MAX;
-const SIGNALS: u64 = u64::MAX - 1;
+/// Tokens of the poll that are no connection's: their slots are beyond any.
+const SIGNALS: u64 = u64::MAX;
+pub const LISTENERS: u64 = u64::MAX - 0xffff;
 
 pub struct Server {
-    poll: Poll,
-    listener: TcpListener,
+    pub poll: Poll,
+    pub listeners: Vec<TcpListener>,
     signals: Signals,
-    mapper: Mapper,
-    connections: Table,
+    pub mapper: Mapper,
+    pub connections: Table,
+    pub turn: Turn,
+}
+
+/// What is carried over from turn to turn.
+#[derive(Default)]
+pub struct Turn {
     /// Accepted, and not looked at yet.
-    new: VecDeque<u64>,
+    pub new: VecDeque<u64>,
     /// Somebody waited to be accepted in the last turn too.
-    crowded: bool,
-    /// When connections have to be looked at for their deadlines: never later than the first of
-    /// these.
-    sweep_at: Option<Instant>,
+    pub crowded: bool,
+    /// Their registrations wait for creations, until `held_until`.
+    held: VecDeque<u64>,
+    held_until: Option<Instant>,
     /// When accepting goes on.
-    rests_until: Option<Instant>,
-    turned_away: Limiter,
-    accept_errors: Limiter,
+    pub rests_until: Option<Instant>,
 }
 
 impl Server {
-    /// Listens, and says where. The registry tells the port that was really taken.
-    pub fn new(options: &Options) -> io::Result<Server> {
-        let signals = Signals::new()?;
-        let listener = TcpListener::bind((options.address, options.port))?;
-        sys::set_backlog(&listener, BACKLOG)?;
-        sys::set_buffers(&listener, BUFFERS)?;
-        listener.set_nonblocking(true)?;
-        let address = listener.local_addr()?;
-        let registry = Registry::new(address.port(), options.first_creation)
-            .map_err(|refusal| io::Error::new(io::ErrorKind::InvalidInput, refusal))?;
+    pub fn new(
+        listeners: Vec<TcpListener>,
+        signals: Signals,
+        mapper: Mapper,
+        limit: usize,
+    ) -> io::Result<Server> {
         let poll = Poll::new()?;
-        poll.add(&listener, LISTENER, READABLE)?;
+        for (at, listener) in listeners.iter().enumerate() {
+            poll.add(listener, LISTENERS + at as u64, READABLE)?;
+        }
         poll.add(&signals, SIGNALS, READABLE)?;
-        let log = Log {
-            json: options.json,
-            quiet: options.quiet,
-        };
-        say_listening(&log, address, options);
         Ok(Server {
             poll,
-            listener,
+            listeners,
             signals,
-            mapper: Mapper::new(registry, options.idle_timeout, log),
-            connections: Table::new(options.max_connections),
-            new: VecDeque::new(),
-            crowded: false,
-            sweep_at: None,
-            rests_until: None,
-            turned_away: Limiter::default(),
-            accept_errors: Limiter::default(),
+            mapper,
+            connections: Table::new(limit),
+            turn: Turn::default(),
         })
     }
 
@@ -87,45 +69,65 @@ impl Server {
             let timeout = self.timeout();
             let ready = self.poll.wait(&mut events, timeout)?;
             let now = Instant::now();
-            let mut accepts = false;
+            let mut waiting = Vec::new();
             for event in ready {
                 match event.token {
-                    LISTENER => accepts = true,
-                    SIGNALS => {
-                        if let Some(signal) = self.signals.take() {
-                            self.mapper.say_stopped(signal);
-                            return Ok(());
-                        }
-                    }
+                    SIGNALS if self.obeys_signals() => return Ok(()),
+                    SIGNALS => {}
+                    LISTENERS.. => waiting.push((event.token - LISTENERS) as usize),
                     token => self.attend(token, event.ready, now),
                 }
             }
             self.wake(now)?;
-            if accepts {
-                self.accept(now)?;
+            for &at in &waiting {
+                self.accept(at, now)?;
             }
-            self.crowded = accepts;
+            self.turn.crowded = !waiting.is_empty();
         }
+    }
+
+    /// Whether a signal asks for the end.
+    fn obeys_signals(&mut self) -> bool {
+        while let Some(signal) = self.signals.take() {
+            match signal {
+                Signal::End(name) => {
+                    self.mapper.say_stopped(name);
+                    return true;
+                }
+                Signal::Hangup => {
+                    let fields = [("signal", Value::Text("SIGHUP"))];
+                    self.mapper.log.line("ignored", &fields);
+                }
+            }
+        }
+        false
     }
 
     /// Until when there is nothing to do, if nothing becomes ready.
     fn timeout(&self) -> Option<Duration> {
-        let first = [self.sweep_at, self.rests_until]
-            .into_iter()
-            .flatten()
-            .min()?;
+        let deadline = self.connections.first_caller().map(|it| it.deadline);
+        let turn = &self.turn;
+        let times = [
+            deadline,
+            turn.rests_until,
+            turn.held_until,
+            self.mapper.log.due(),
+        ];
+        let first = times.into_iter().flatten().min()?;
         Some(first.saturating_duration_since(Instant::now()))
     }
 
-    fn attend(&mut self, token: u64, ready: u32, now: Instant) {
+    pub fn attend(&mut self, token: u64, ready: u32, now: Instant) {
         let Some(it) = self.connections.get(token) else {
             return;
         };
-        let mut outcome = self.mapper.attend(it, ready, now);
+        let outcome = self.mapper.attend(it, ready, now);
+        self.conclude(token, outcome, now);
+    }
+
+    fn conclude(&mut self, token: u64, mut outcome: Result<Next, Why>, now: Instant) {
         if let Ok(Next::SeekEnded) = outcome {
-            for ended in self.connections.ended_nodes() {
-                self.close(ended, &Why::Ended);
-            }
+            self.close_ended_nodes(token);
             if let Some(it) = self.connections.get(token) {
                 outcome = self.mapper.answer_all(it, now, true);
             }
@@ -133,125 +135,101 @@ impl Server {
         self.settle(token, outcome);
     }
 
-    /// Waits for what the connection needs next, or closes it.
-    fn settle(&mut self, token: u64, outcome: Result<Next, Why>) {
+    /// Closes the nodes that have ended and may be in the way of a registration.
+    fn close_ended_nodes(&mut self, token: u64) {
         let Some(it) = self.connections.get(token) else {
             return;
         };
+        let (name, all) = self.mapper.sought(it);
+        let name = name.to_vec();
+        for ended in self.connections.ended_nodes(&name, all) {
+            self.close(ended, &Why::Ended);
+        }
+    }
+
+    /// Waits for what the connection needs next, or closes it.
+    pub fn settle(&mut self, token: u64, outcome: Result<Next, Why>) {
+        let Some(it) = self.connections.get(token) else {
+            return;
+        };
+        let was_held = it.held;
+        it.held = matches!(outcome, Ok(Next::Hold(_)));
         let interest = it.interest();
-        let outcome = outcome.and_then(|_| {
+        let outcome = outcome.and_then(|next| {
             match it.waits_for {
                 same if same == interest => Ok(()),
                 0 => self.poll.add(&it.stream, token, interest),
                 _ => self.poll.change(&it.stream, token, interest),
             }
-            .map_err(Why::Failed)
+            .map_err(Why::Failed)?;
+            it.waits_for = interest;
+            Ok(next)
         });
-        it.waits_for = interest;
-        if let Err(why) = outcome {
-            self.close(token, &why);
+        let has_node = it.node.is_some();
+        match outcome {
+            Err(why) => return self.close(token, &why),
+            Ok(Next::Hold(time)) if !was_held => self.hold(token, time),
+            Ok(_) => {}
+        }
+        if has_node {
+            self.connections.settle_node(token);
         }
     }
 
-    fn close(&mut self, token: u64, why: &Why) {
+    fn hold(&mut self, token: u64, time: Instant) {
+        self.turn.held_until.get_or_insert(time);
+        // Those that were closed meanwhile are still in it.
+        if self.turn.held.len() >= 2 * self.connections.limit() {
+            let connections = &mut self.connections;
+            let is_open = |it: &u64| connections.get(*it).is_some();
+            self.turn.held.retain(is_open);
+        }
+        self.turn.held.push_back(token);
+    }
+
+    pub fn close(&mut self, token: u64, why: &Why) {
         if let Some(it) = self.connections.remove(token) {
             self.mapper.closed(&it, why);
         }
     }
 
-    /// Takes in who waits outside. Who comes alone has hardly sent its request yet, and is waited
-    /// for. In a crowd it has, by the time that it is accepted, and is answered without a wait.
-    fn accept(&mut self, now: Instant) -> io::Result<()> {
-        let mut outcome = Ok(());
-        for _ in 0..if self.crowded { ACCEPTS } else { 1 } {
-            match sys::accept(&self.listener) {
-                Ok((stream, peer)) => self.greet(stream, peer, now),
-                Err(error) => match error.kind() {
-                    io::ErrorKind::WouldBlock => break,
-                    io::ErrorKind::Interrupted | io::ErrorKind::ConnectionAborted => {}
-                    _ => {
-                        outcome = self.rest(&error, now);
-                        break;
-                    }
-                },
-            }
-        }
-        while let Some(token) = self.new.pop_front() {
-            match self.crowded {
-                true => self.attend(token, READABLE, now),
-                false => self.settle(token, Ok(Next::Wait)),
-            }
-        }
-        outcome
-    }
-
-    fn greet(&mut self, stream: TcpStream, peer: SocketAddr, now: Instant) {
-        let deadline = self.mapper.deadline(now);
-        match self.connections.add(stream, peer, deadline) {
-            Some(token) => {
-                self.sweep_at.get_or_insert(deadline);
-                self.new.push_back(token);
-            }
-            None => {
-                if let Some(times) = self.turned_away.count(now) {
-                    let limit = self.connections.limit() as u64;
-                    let fields = [
-                        ("limit", Value::Number(limit)),
-                        ("closed", Value::Number(times)),
-                    ];
-                    self.mapper.log.line("too-many-connections", &fields);
-                }
-            }
-        }
-    }
-
-    /// No descriptor or memory is left: those who wait outside are taken in later, and nobody
-    /// inside is disturbed.
-    fn rest(&mut self, error: &io::Error, now: Instant) -> io::Result<()> {
-        if let Some(times) = self.accept_errors.count(now) {
-            let text = error.to_string();
-            let fields = [
-                ("reason", Value::Text(&text)),
-                ("times", Value::Number(times)),
-            ];
-            self.mapper.log.line("accept-failed", &fields);
-        }
-        self.rests_until = Some(now + REST);
-        self.poll.change(&self.listener, LISTENER, 0)
-    }
-
     /// What is due by the clock.
     fn wake(&mut self, now: Instant) -> io::Result<()> {
-        if self.rests_until.is_some_and(|time| time <= now) {
-            self.rests_until = None;
-            self.poll.change(&self.listener, LISTENER, READABLE)?;
+        if self.turn.rests_until.is_some_and(|time| time <= now) {
+            self.turn.rests_until = None;
+            self.listen_for(READABLE)?;
         }
-        if self.sweep_at.is_some_and(|time| time <= now) {
-            for token in self.connections.expired(now) {
-                self.close(token, &Why::TimedOut);
+        while let Some(it) = self.connections.first_caller() {
+            if it.deadline > now {
+                break;
             }
-            self.sweep_at = self.connections.first_deadline();
+            self.close(token(it), &Why::TimedOut);
+        }
+        if self.turn.held_until.is_some_and(|time| time <= now) {
+            self.turn.held_until = None;
+            self.let_go(now);
+        }
+        if self.mapper.log.due().is_some_and(|time| time <= now) {
+            self.mapper.log.tell_left_out(now);
         }
         Ok(())
     }
-}
 
-fn say_listening(log: &Log, address: SocketAddr, options: &Options) {
-    let address = address.to_string();
-    let fields = [
-        ("address", Value::Text(&address)),
-        (
-            "first-creation",
-            Value::Number(options.first_creation.into()),
-        ),
-        (
-            "max-connections",
-            Value::Number(options.max_connections as u64),
-        ),
-    ];
-    if options.port == 0 {
-        log.line_even_if_quiet("listening", &fields);
-    } else {
-        log.line("listening", &fields);
+    /// Registrations that waited, in their order, until one has to wait on.
+    fn let_go(&mut self, now: Instant) {
+        while !self.turn.held.is_empty() {
+            if let May::Later(time) = self.mapper.may_give(now) {
+                self.turn.held_until = Some(time);
+                return;
+            }
+            let Some(token) = self.turn.held.pop_front() else {
+                return;
+            };
+            if let Some(it) = self.connections.get(token) {
+                it.held = false;
+                let outcome = self.mapper.answer_all(it, now, false);
+                self.conclude(token, outcome, now);
+            }
+        }
     }
 }

@@ -4,10 +4,15 @@ use std::net::{SocketAddr, TcpStream};
 use std::time::Instant;
 
 use crate::connection::Connection;
+use crate::order::Order;
 
 pub struct Table {
     slots: Vec<Option<Connection>>,
     free: Vec<usize>,
+    /// Those without a node, in the order of their opening, which is that of their deadlines.
+    callers: Order,
+    /// Those with a node.
+    nodes: Vec<usize>,
     limit: usize,
     /// How many there have been.
     count: u64,
@@ -18,6 +23,8 @@ impl Table {
         Table {
             slots: Vec::new(),
             free: Vec::new(),
+            callers: Order::new(),
+            nodes: Vec::new(),
             limit,
             count: 0,
         }
@@ -27,7 +34,12 @@ impl Table {
         self.limit
     }
 
-    /// The token of a new connection, or nothing if there are as many as there may be.
+    pub fn is_full(&self) -> bool {
+        self.free.is_empty() && self.slots.len() >= self.limit
+    }
+
+    /// The token of a new connection, or nothing if there are as many as there may be. All have the
+    /// same time to live, so that deadlines come in the order of opening.
     pub fn add(&mut self, stream: TcpStream, peer: SocketAddr, deadline: Instant) -> Option<u64> {
         let slot = match self.free.pop() {
             Some(slot) => slot,
@@ -41,6 +53,7 @@ impl Table {
         let it = Connection::new(stream, peer, self.count, slot as u32, deadline);
         let token = token(&it);
         self.slots[slot] = Some(it);
+        self.callers.push(slot);
         Some(token)
     }
 
@@ -49,37 +62,41 @@ impl Table {
         slot.filter(|it| self::token(it) == token)
     }
 
+    /// The connection has registered a node: it has no deadline any more.
+    pub fn settle_node(&mut self, token: u64) {
+        let slot = slot(token);
+        if !self.nodes.contains(&slot) {
+            self.callers.remove(slot);
+            self.nodes.push(slot);
+        }
+    }
+
     pub fn remove(&mut self, token: u64) -> Option<Connection> {
         self.get(token)?;
-        self.free.push(slot(token));
-        self.slots[slot(token)].take()
+        let slot = slot(token);
+        self.free.push(slot);
+        self.callers.remove(slot);
+        self.nodes.retain(|&node| node != slot);
+        self.slots[slot].take()
     }
 
-    /// Those that registered no node and whose deadline has come.
-    pub fn expired(&self, now: Instant) -> Vec<u64> {
-        self.mortal()
-            .filter(|it| it.deadline <= now)
-            .map(token)
-            .collect()
+    /// The connection without a node whose deadline is nearest.
+    pub fn first_caller(&self) -> Option<&Connection> {
+        self.slots[self.callers.first()?].as_ref()
     }
 
-    pub fn first_deadline(&self) -> Option<Instant> {
-        self.mortal().map(|it| it.deadline).min()
-    }
-
-    /// Nodes whose connection has ended, told of by the poll or not.
-    pub fn ended_nodes(&self) -> Vec<u64> {
-        let nodes = self.slots.iter().flatten().filter(|it| it.node.is_some());
-        nodes.filter(|it| it.has_ended()).map(token).collect()
-    }
-
-    fn mortal(&self) -> impl Iterator<Item = &Connection> {
-        self.slots.iter().flatten().filter(|it| it.node.is_none())
+    /// Nodes whose connection has ended, told of by the poll or not: that of `name` alone, since
+    /// nobody else is in its way, or all of them if their places are taken too.
+    pub fn ended_nodes(&self, name: &[u8], all: bool) -> Vec<u64> {
+        let nodes = self.nodes.iter().filter_map(|&at| self.slots[at].as_ref());
+        let in_the_way = |it: &&Connection| all || it.has_node(name);
+        let ended = nodes.filter(in_the_way).filter(|it| it.has_ended());
+        ended.map(token).collect()
     }
 }
 
 /// The slot, and above it what tells this connection from others that had the slot.
-fn token(it: &Connection) -> u64 {
+pub fn token(it: &Connection) -> u64 {
     it.number << 32 | u64::from(it.slot)
 }
 

@@ -55,8 +55,8 @@ pub struct Answered {
 #[derive(Clone, Debug)]
 pub struct Endpoint {
     pub(crate) name: Short<255>,
-    flags: u64,
-    creation: u32,
+    pub(crate) flags: u64,
+    pub(crate) creation: u32,
     pub(crate) slots: [Slot; SLOTS],
 }
 

@@ -7,6 +7,7 @@
 
 mod bytes;
 mod endpoint;
+mod layout;
 mod md5;
 mod refusal;
 mod registry;

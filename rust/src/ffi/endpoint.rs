@@ -1,11 +1,12 @@
 //! The distribution handshake.
 
-use std::mem::MaybeUninit;
-
-/// The endpoint's state. Opaque: its bytes are the library's own.
-#[derive(Clone, Copy)]
-#[repr(C, align(8))]
-pub struct bks_endpoint([MaybeUninit<u8>; 9_232]);
+/// The endpoint's state: plain bytes, without padding.
+#[derive(Clone, Copy, PartialEq, Eq)]
+#[repr(C)]
+pub struct bks_endpoint {
+    /// Opaque: the library's own.
+    pub bytes: [u8; 9_004],
+}
 
 /// What a start gives.
 #[derive(Clone, Copy, Debug)]
@@ -13,7 +14,7 @@ pub struct bks_endpoint([MaybeUninit<u8>; 9_232]);
 pub struct bks_started {
     /// 0, or the refusal's number.
     pub refusal: u32,
-    /// The slot that was taken.
+    /// The slot that was taken; beside a refusal 0.
     pub slot: u32,
     /// How many output bytes were written.
     pub written: usize,
@@ -25,7 +26,7 @@ pub struct bks_started {
 pub struct bks_arrived {
     /// 0, or the refusal's number.
     pub refusal: u32,
-    /// The slot that was taken.
+    /// The slot that was taken; beside a refusal 0.
     pub slot: u32,
 }
 
@@ -35,12 +36,14 @@ pub struct bks_arrived {
 pub struct bks_answered {
     /// 0, or the refusal's number.
     pub refusal: u32,
-    /// How many output bytes were written.
-    pub written: usize,
     /// The slot's new stage; beside a refusal 0.
     pub stage: u32,
     /// Another slot that was freed; 32: none, as beside a refusal.
     pub freed: u32,
+    /// 1 if the slot named is free now by this message, answered or refused; otherwise 0.
+    pub ended: u32,
+    /// How many output bytes were written.
+    pub written: usize,
 }
 
 /// What is recorded in a slot.
@@ -61,35 +64,64 @@ pub struct bks_slot {
     pub name: [u8; 255],
 }
 
+/// What an endpoint was made with.
+#[derive(Clone, Copy, Debug)]
 #[repr(C)]
-struct Made {
-    endpoint: bks_endpoint,
-    refusal: u32,
-}
-
-#[repr(C)]
-struct Told {
-    endpoint: bks_endpoint,
-    refusal: u32,
-    stage: u32,
-    slot: usize,
-    freed: usize,
-    written: usize,
+pub struct bks_own {
+    /// The endpoint's flags.
+    pub flags: u64,
+    /// The endpoint's creation.
+    pub creation: u32,
+    /// How many bytes of `name` are the name; the others are zero.
+    pub name_len: u8,
+    /// The endpoint's full name.
+    pub name: [u8; 255],
 }
 
 extern "C" {
-    fn bks_endpoint_new_value(name: *const u8, name_len: usize, flags: u64, creation: u32) -> Made;
-    fn bks_endpoint_start_value(
-        e: bks_endpoint,
+    /// Makes an endpoint at `e`. 0, or the refusal's number, and then nothing is written.
+    ///
+    /// # Safety
+    /// `e` must be writable, and may hold anything before; `name` as said at the head of this
+    /// module.
+    pub fn bks_endpoint_new(
+        e: *mut bks_endpoint,
+        name: *const u8,
+        name_len: usize,
+        flags: u64,
+        creation: u32,
+    ) -> u32;
+
+    /// Begins a handshake as initiator.
+    ///
+    /// # Safety
+    /// As said at the head of this module.
+    pub fn bks_endpoint_start(
+        e: *mut bks_endpoint,
         name: *const u8,
         name_len: usize,
         out: *mut u8,
         out_len: usize,
-    ) -> Told;
-    fn bks_endpoint_arrive_value(e: bks_endpoint) -> Told;
-    fn bks_endpoint_close_value(e: bks_endpoint, slot: u32) -> Told;
-    fn bks_endpoint_message_value(
-        e: bks_endpoint,
+    ) -> bks_started;
+
+    /// Begins a handshake as acceptor.
+    ///
+    /// # Safety
+    /// As said at the head of this module.
+    pub fn bks_endpoint_arrive(e: *mut bks_endpoint) -> bks_arrived;
+
+    /// Frees a slot. 0, or the refusal's number.
+    ///
+    /// # Safety
+    /// As said at the head of this module.
+    pub fn bks_endpoint_close(e: *mut bks_endpoint, slot: u32) -> u32;
+
+    /// Takes in one message on a slot.
+    ///
+    /// # Safety
+    /// As said at the head of this module.
+    pub fn bks_endpoint_message(
+        e: *mut bks_endpoint,
         slot: u32,
         frame: *const u8,
         frame_len: usize,
@@ -100,106 +132,17 @@ extern "C" {
         standard_len: usize,
         out: *mut u8,
         out_len: usize,
-    ) -> Told;
-    fn bks_endpoint_slot_value(e: bks_endpoint, slot: u32) -> bks_slot;
-}
+    ) -> bks_answered;
 
-/// Makes an endpoint at `e`. 0, or the refusal's number, and then nothing is made.
-///
-/// # Safety
-/// `e` must be writable, and may hold anything before; `name` as said at the head of this module.
-pub unsafe fn bks_endpoint_new(
-    e: *mut bks_endpoint,
-    name: *const u8,
-    name_len: usize,
-    flags: u64,
-    creation: u32,
-) -> u32 {
-    let made = bks_endpoint_new_value(name, name_len, flags, creation);
-    if made.refusal == 0 {
-        e.write(made.endpoint);
-    }
-    made.refusal
-}
+    /// What is recorded in a slot; all zero if it is free or not below 32.
+    ///
+    /// # Safety
+    /// As said at the head of this module.
+    pub fn bks_endpoint_slot(e: *const bks_endpoint, slot: u32) -> bks_slot;
 
-/// Begins a handshake as initiator.
-///
-/// # Safety
-/// As said at the head of this module.
-pub unsafe fn bks_endpoint_start(
-    e: *mut bks_endpoint,
-    name: *const u8,
-    name_len: usize,
-    out: *mut u8,
-    out_len: usize,
-) -> bks_started {
-    let told = bks_endpoint_start_value(*e, name, name_len, out, out_len);
-    *e = told.endpoint;
-    bks_started {
-        refusal: told.refusal,
-        slot: told.slot as u32,
-        written: told.written,
-    }
-}
-
-/// Begins a handshake as acceptor.
-///
-/// # Safety
-/// As said at the head of this module.
-pub unsafe fn bks_endpoint_arrive(e: *mut bks_endpoint) -> bks_arrived {
-    let told = bks_endpoint_arrive_value(*e);
-    *e = told.endpoint;
-    bks_arrived {
-        refusal: told.refusal,
-        slot: told.slot as u32,
-    }
-}
-
-/// Frees a slot. 0, or the refusal's number.
-///
-/// # Safety
-/// As said at the head of this module.
-pub unsafe fn bks_endpoint_close(e: *mut bks_endpoint, slot: u32) -> u32 {
-    let told = bks_endpoint_close_value(*e, slot);
-    *e = told.endpoint;
-    told.refusal
-}
-
-/// Takes in one message on a slot.
-///
-/// # Safety
-/// As said at the head of this module.
-#[rustfmt::skip]
-#[allow(clippy::too_many_arguments)] // As many as the header's function has.
-pub unsafe fn bks_endpoint_message(
-    e: *mut bks_endpoint,
-    slot: u32,
-    frame: *const u8,
-    frame_len: usize,
-    challenge: u32,
-    own: *const u8,
-    own_len: usize,
-    standard: *const u8,
-    standard_len: usize,
-    out: *mut u8,
-    out_len: usize,
-) -> bks_answered {
-    let told = bks_endpoint_message_value(
-        *e, slot, frame, frame_len, challenge, own, own_len, standard, standard_len, out, out_len,
-    );
-    *e = told.endpoint;
-    bks_answered {
-        refusal: told.refusal,
-        written: told.written,
-        stage: told.stage,
-        freed: told.freed as u32,
-    }
-}
-
-/// What is recorded in a slot; all zero if it is free or not below 32.
-///
-/// # Safety
-/// As said at the head of this module.
-pub unsafe fn bks_endpoint_slot(e: *const bks_endpoint, slot: u32) -> bks_slot {
-    bks_endpoint_slot_value(*e, slot)
+    /// The endpoint's own name, flags and creation.
+    ///
+    /// # Safety
+    /// As said at the head of this module.
+    pub fn bks_endpoint_own(e: *const bks_endpoint) -> bks_own;
 }

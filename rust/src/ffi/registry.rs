@@ -1,11 +1,12 @@
 //! The port mapper.
 
-use std::mem::MaybeUninit;
-
-/// The port mapper's state. Opaque: its bytes are the library's own.
-#[derive(Clone, Copy)]
-#[repr(C, align(4))]
-pub struct bks_registry([MaybeUninit<u8>; 25_864]);
+/// The port mapper's state: plain bytes, without padding.
+#[derive(Clone, Copy, PartialEq, Eq)]
+#[repr(C)]
+pub struct bks_registry {
+    /// Opaque: the library's own.
+    pub bytes: [u8; 25_670],
+}
 
 /// What a request gives.
 #[derive(Clone, Copy, Debug)]
@@ -45,24 +46,12 @@ pub struct bks_registration {
     pub creation: u32,
 }
 
-#[repr(C)]
-struct Made {
-    registry: bks_registry,
-    refusal: u32,
-}
-
-#[repr(C)]
-struct Closed {
-    registry: bks_registry,
-    freed: bool,
-}
-
 extern "C" {
-    fn bks_registry_new_value(port: u16, first_creation: u32) -> Made;
-    fn bks_registry_close_value(r: bks_registry, connection: u32) -> Closed;
-    fn bks_registry_entry_value(r: bks_registry, place: u32) -> bks_registration;
-    fn bks_registry_next_value(r: bks_registry) -> u32;
-    fn bks_registry_port_value(r: bks_registry) -> u16;
+    /// Makes a registry at `r`. 0, or the refusal's number, and then nothing is written.
+    ///
+    /// # Safety
+    /// `r` must be writable; it may hold anything before.
+    pub fn bks_registry_new(r: *mut bks_registry, port: u16, first_creation: u32) -> u32;
 
     /// Answers one request.
     ///
@@ -76,50 +65,28 @@ extern "C" {
         out: *mut u8,
         out_len: usize,
     ) -> bks_written;
-}
 
-/// Makes a registry at `r`. 0, or the refusal's number, and then nothing is made.
-///
-/// # Safety
-/// `r` must be writable; it may hold anything before.
-pub unsafe fn bks_registry_new(r: *mut bks_registry, port: u16, first_creation: u32) -> u32 {
-    let made = bks_registry_new_value(port, first_creation);
-    if made.refusal == 0 {
-        r.write(made.registry);
-    }
-    made.refusal
-}
+    /// Frees the place that `connection` registered. Whether there was one.
+    ///
+    /// # Safety
+    /// As said at the head of this module.
+    pub fn bks_registry_close(r: *mut bks_registry, connection: u32) -> bool;
 
-/// Frees the place that `connection` registered. Whether there was one.
-///
-/// # Safety
-/// As said at the head of this module.
-pub unsafe fn bks_registry_close(r: *mut bks_registry, connection: u32) -> bool {
-    let closed = bks_registry_close_value(*r, connection);
-    *r = closed.registry;
-    closed.freed
-}
+    /// The node registered at `place`; all zero if the place is free or not below 64.
+    ///
+    /// # Safety
+    /// As said at the head of this module.
+    pub fn bks_registry_entry(r: *const bks_registry, place: u32) -> bks_registration;
 
-/// The node registered at `place`; all zero if the place is free or not below 64.
-///
-/// # Safety
-/// As said at the head of this module.
-pub unsafe fn bks_registry_entry(r: *const bks_registry, place: u32) -> bks_registration {
-    bks_registry_entry_value(*r, place)
-}
+    /// The next creation.
+    ///
+    /// # Safety
+    /// As said at the head of this module.
+    pub fn bks_registry_next(r: *const bks_registry) -> u32;
 
-/// The next creation.
-///
-/// # Safety
-/// As said at the head of this module.
-pub unsafe fn bks_registry_next(r: *const bks_registry) -> u32 {
-    bks_registry_next_value(*r)
-}
-
-/// The registry's own port.
-///
-/// # Safety
-/// As said at the head of this module.
-pub unsafe fn bks_registry_port(r: *const bks_registry) -> u16 {
-    bks_registry_port_value(*r)
+    /// The registry's own port.
+    ///
+    /// # Safety
+    /// As said at the head of this module.
+    pub fn bks_registry_port(r: *const bks_registry) -> u16;
 }

@@ -1,6 +1,8 @@
 //! Messages of the handshake.
 
-use birkenschuh::{md5, Cookies, Endpoint, Refusal, Slot, Stage, ENDPOINT_OUTPUT};
+use birkenschuh::{
+    md5, Answered, Cookies, Endpoint, Refusal, Refused, Slot, Stage, ENDPOINT_OUTPUT,
+};
 
 use crate::common::frames::{frame, reply, GOOD_FLAGS};
 use crate::common::from_hex;
@@ -11,6 +13,14 @@ const COOKIES: Cookies<'static> = Cookies {
     own: b"",
     standard: b"monster",
 };
+
+/// A refusal that frees the slot.
+fn freed(refusal: Refusal) -> Result<Answered, Refused> {
+    Err(Refused {
+        refusal,
+        slot_freed: true,
+    })
+}
 
 fn are_good(flags: u64) -> bool {
     flags & (GOOD_FLAGS | 1 << 33) == GOOD_FLAGS
@@ -26,10 +36,10 @@ fn name_messages_are_read_field_by_field() {
         let mut out = [0; ENDPOINT_OUTPUT];
         let answer = endpoint.message(slot, &seen.frame, 9, COOKIES, &mut out);
         if !seen.name().contains(&b'@') {
-            assert_eq!(answer, Err(Refusal::BadName), "{}", seen.note);
+            assert_eq!(answer, freed(Refusal::BadName), "{}", seen.note);
             refused += 1;
         } else if !are_good(seen.flags()) {
-            assert_eq!(answer, Err(Refusal::BadFlags), "{}", seen.note);
+            assert_eq!(answer, freed(Refusal::BadFlags), "{}", seen.note);
             refused += 1;
         } else {
             assert_eq!(answer.unwrap().stage, Stage::AwaitsReply, "{}", seen.note);
@@ -65,7 +75,7 @@ fn challenge_messages_are_read_field_by_field() {
             .unwrap();
         let answer = endpoint.message(slot, &seen.frame, 9, COOKIES, &mut out);
         if !are_good(seen.flags()) {
-            assert_eq!(answer, Err(Refusal::BadFlags), "{}", seen.note);
+            assert_eq!(answer, freed(Refusal::BadFlags), "{}", seen.note);
             refused += 1;
             continue;
         }
@@ -157,7 +167,7 @@ fn digests_of_real_nodes_have_the_other_order() {
         .message(0, &name.frame, challenge, COOKIES, &mut out)
         .unwrap();
     let answer = endpoint.message(0, &reply.frame, 0, COOKIES, &mut out);
-    assert_eq!(answer, Err(Refusal::WrongDigest));
+    assert_eq!(answer, freed(Refusal::WrongDigest));
 }
 
 /// Status words of real nodes, as an initiator reads them.
@@ -173,8 +183,8 @@ fn status_words_are_read() {
         match word.as_str() {
             "ok" | "ok_simultaneous" => assert_eq!(answer.unwrap().written, 0),
             "alive" => assert_eq!(out[..answer.unwrap().written], frame(b"strue")),
-            "nok" | "not_allowed" => assert_eq!(answer, Err(Refusal::Declined)),
-            _ => assert_eq!(answer, Err(Refusal::UnknownStatus)),
+            "nok" | "not_allowed" => assert_eq!(answer, freed(Refusal::Declined)),
+            _ => assert_eq!(answer, freed(Refusal::UnknownStatus)),
         }
         words.push(word);
     }

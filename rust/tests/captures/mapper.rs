@@ -59,7 +59,7 @@ fn requests_of_real_nodes_are_answered() {
         };
         let mut out = [0; REGISTRY_OUTPUT];
         let answer = registry.request(connection, &request, &mut out);
-        let ours = answer.map(|written| &out[..written]);
+        let ours = answer.map(|reply| &out[..reply.written]);
         tally.count(format!("tag {}", request[2]));
         match request[2] {
             120 => {

@@ -4,6 +4,7 @@ use std::fmt::Display;
 use std::str::FromStr;
 
 use super::tally::Tally;
+use super::to_hex;
 
 /// The library and the model side by side, before any call.
 pub trait Compared: Default {
@@ -85,6 +86,28 @@ pub fn outputs(ours: &[u8], expected: &[u8]) -> Result<(), String> {
     Err(format!(
         "output byte {at} is {:#04x}, expected {:#04x}",
         ours[at], expected[at]
+    ))
+}
+
+/// The first difference between two states, as text: an offset and the bytes from there on.
+pub fn states(ours: &[u8], expected: &[u8]) -> Result<(), String> {
+    if ours == expected {
+        return Ok(());
+    }
+    if ours.len() != expected.len() {
+        return Err(format!(
+            "the state has {} bytes, expected {}",
+            ours.len(),
+            expected.len()
+        ));
+    }
+    let at = ours.iter().zip(expected).position(|(a, b)| a != b);
+    let at = at.expect("states of one length that differ");
+    let some = |state: &[u8]| to_hex(&state[at..state.len().min(at + 8)]);
+    Err(format!(
+        "the state from byte {at} on is {}.., expected {}..",
+        some(ours),
+        some(expected)
     ))
 }
 

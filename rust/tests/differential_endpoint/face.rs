@@ -4,7 +4,7 @@ use std::mem::MaybeUninit;
 use std::ptr::{null, null_mut};
 
 use birkenschuh::ffi::{self, bks_endpoint};
-use birkenschuh::{Answered, Cookies, Endpoint, Refusal, Slot, Stage, Started, SLOTS};
+use birkenschuh::{Answered, Cookies, Endpoint, Own, Refusal, Slot, Stage, Started, SLOTS};
 
 use crate::calls::Message;
 
@@ -92,7 +92,8 @@ impl Face {
         }
     }
 
-    pub fn message(&mut self, message: &Message, out: &mut [u8]) -> Result<Answered, u32> {
+    /// Beside a refusal, whether the slot was freed.
+    pub fn message(&mut self, message: &Message, out: &mut [u8]) -> Result<Answered, (u32, bool)> {
         let Message {
             slot,
             frame,
@@ -105,7 +106,7 @@ impl Face {
             Face::Safe(endpoint) => {
                 let cookies = Cookies { own, standard };
                 let answer = endpoint.message(*slot, frame, *challenge, cookies, out);
-                return answer.map_err(Refusal::number);
+                return answer.map_err(|refused| (refused.refusal.number(), refused.slot_freed));
             }
             Face::Raw(state) => &mut **state,
         };
@@ -121,11 +122,41 @@ impl Face {
         };
         let is_nothing = (told.written, told.stage, told.freed) == (0, 0, 32);
         assert!(told.refusal == 0 || is_nothing, "told beside a refusal");
-        unless(told.refusal, told).map(|told| Answered {
+        assert!(told.ended < 2);
+        let ended = told.ended == 1;
+        if told.refusal != 0 {
+            return Err((told.refusal, ended));
+        }
+        assert_eq!(ended, told.stage == 0, "an answer that frees the slot");
+        Ok(Answered {
             stage: Stage::ALL[told.stage as usize],
             freed: (told.freed as usize != SLOTS).then_some(told.freed as usize),
             written: told.written,
         })
+    }
+
+    /// The endpoint as it lies in memory.
+    pub fn bytes(&self) -> &[u8] {
+        match self {
+            Face::Safe(endpoint) => endpoint.as_bytes(),
+            Face::Raw(state) => &state.bytes,
+        }
+    }
+
+    pub fn own(&self) -> Own {
+        let state = match self {
+            Face::Safe(endpoint) => return endpoint.own(),
+            Face::Raw(state) => &**state,
+        };
+        // SAFETY: the state is an endpoint.
+        let own = unsafe { ffi::bks_endpoint_own(state) };
+        let (name, behind) = own.name.split_at(usize::from(own.name_len));
+        assert!(behind.iter().all(|byte| *byte == 0));
+        Own {
+            name: name.to_vec(),
+            flags: own.flags,
+            creation: own.creation,
+        }
     }
 
     /// On the raw side, what lies behind the name must be zero.

@@ -1,9 +1,9 @@
 //! The library's endpoint beside the model's.
 
-use birkenschuh::{Answered, Slot, Stage, Started, SLOTS};
+use birkenschuh::{Answered, Own, Slot, Stage, Started, SLOTS};
 
 use crate::calls::{Call, Message};
-use crate::common::differ::{outputs, same, Compared};
+use crate::common::differ::{outputs, same, states, Compared};
 use crate::common::tally::Tally;
 use crate::face::Face;
 
@@ -13,8 +13,10 @@ const GUARD: usize = 64;
 #[derive(Default)]
 pub struct Pair {
     state: Option<(Face, model::Endpoint)>,
+    own: Option<Own>,
     ours: Vec<u8>,
     expected: Vec<u8>,
+    bytes: Vec<u8>,
     calls: usize,
 }
 
@@ -88,6 +90,11 @@ impl Pair {
         tally.count(named(what, ours.as_ref().map_err(|refusal| *refusal)));
         if let (Ok(ours), Ok(expected)) = (ours, expected) {
             self.state = Some((ours, expected));
+            self.own = Some(Own {
+                name: name.clone(),
+                flags: *flags,
+                creation: *creation,
+            });
         }
         self.compare_states()
     }
@@ -140,18 +147,27 @@ impl Pair {
             freed: told.freed,
             written: told.written,
         });
-        same("the answer", answer, told)?;
+        let freed = before != Stage::Free && stage(expected.slot(*slot).stage) == Stage::Free;
+        same("the answer", answer, told.map_err(|number| (number, freed)))?;
         match answer {
             Ok(told) => count(before, told, &self.expected, tally),
-            Err(refusal) => tally.count(format!("{before:?}: refusal {refusal}")),
+            Err((refusal, _)) => tally.count(format!("{before:?}: refusal {refusal}")),
         }
         outputs(&self.ours, &self.expected)
     }
 
-    fn compare_states(&self) -> Result<(), String> {
+    /// Whole states as bytes; now and then also what a host is shown of them.
+    fn compare_states(&mut self) -> Result<(), String> {
         let Some((ours, expected)) = &self.state else {
             return Ok(());
         };
+        self.bytes.clear();
+        expected.put_bytes(&mut self.bytes);
+        states(ours.bytes(), &self.bytes)?;
+        if self.calls % 16 != 1 {
+            return Ok(());
+        }
+        same("what it is itself", Some(ours.own()), self.own.clone())?;
         for at in 0..SLOTS {
             let slot = expected.slot(at);
             let slot = Slot {

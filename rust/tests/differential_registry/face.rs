@@ -3,7 +3,7 @@
 use std::mem::MaybeUninit;
 
 use birkenschuh::ffi::{self, bks_registration, bks_registry};
-use birkenschuh::{Registration, Registry};
+use birkenschuh::{Asked, Registration, Registry};
 
 pub enum Face {
     Safe(Registry),
@@ -26,12 +26,19 @@ impl Face {
         }
     }
 
-    /// On the raw side, an empty run is lent as null.
-    pub fn request(&mut self, connection: u32, frame: &[u8], out: &mut [u8]) -> Result<usize, u32> {
+    /// The length of the reply and, from the safe wrapper, what was asked. On the raw side, an empty
+    /// run is lent as null.
+    pub fn request(
+        &mut self,
+        connection: u32,
+        frame: &[u8],
+        out: &mut [u8],
+    ) -> Result<(usize, Option<Asked>), u32> {
         let state = match self {
             Face::Safe(registry) => {
                 return registry
                     .request(connection, frame, out)
+                    .map(|reply| (reply.written, Some(reply.asked)))
                     .map_err(|refusal| refusal.number())
             }
             Face::Raw(state) => &mut **state,
@@ -49,7 +56,7 @@ impl Face {
             ffi::bks_registry_request(state, connection, frame_at, frame_len, out_at, out_len)
         };
         match told.refusal {
-            0 => Ok(told.written),
+            0 => Ok((told.written, None)),
             refusal => {
                 assert_eq!(told.written, 0, "a refused call writes nothing");
                 Err(refusal)
@@ -62,6 +69,14 @@ impl Face {
             Face::Safe(registry) => registry.close(connection),
             // SAFETY: the state is a registry.
             Face::Raw(state) => unsafe { ffi::bks_registry_close(&mut **state, connection) },
+        }
+    }
+
+    /// The registry as it lies in memory.
+    pub fn bytes(&self) -> &[u8] {
+        match self {
+            Face::Safe(registry) => registry.as_bytes(),
+            Face::Raw(state) => &state.bytes,
         }
     }
 

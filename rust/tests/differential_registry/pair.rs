@@ -1,9 +1,9 @@
 //! The library's registry beside the model's.
 
-use birkenschuh::{Registration, PLACES, REGISTRY_OUTPUT};
+use birkenschuh::{Asked, Registration, PLACES, REGISTRY_OUTPUT};
 
 use crate::calls::Call;
-use crate::common::differ::{outputs, same, Compared};
+use crate::common::differ::{outputs, same, states, Compared};
 use crate::common::tally::Tally;
 use crate::face::Face;
 
@@ -15,6 +15,7 @@ pub struct Pair {
     state: Option<(Face, model::Registry)>,
     ours: Vec<u8>,
     expected: Vec<u8>,
+    bytes: Vec<u8>,
     calls: usize,
 }
 
@@ -83,20 +84,23 @@ impl Pair {
         let before = expected.next_creation();
         let answer = ours.request(connection, frame, &mut self.ours[..room]);
         let told = expected.request(connection, frame, &mut self.expected[..room]);
-        same("the answer", answer, told.map_err(model::Refusal::number))?;
+        let told = told.map_err(model::Refusal::number);
+        same("the answer", answer.map(|(written, _)| written), told)?;
         outputs(&self.ours, &self.expected)?;
-        let changed = before != expected.next_creation();
         if before > expected.next_creation() {
             tally.count("creation wrapped");
         }
         match answer {
-            Ok(written) => count_reply(&self.expected[..written], frame[2], tally),
+            Ok((written, asked)) => {
+                let reply = &self.expected[..written];
+                if let Some(asked) = asked {
+                    same("what was asked", asked, asked_by(reply, frame[2]))?;
+                }
+                count_reply(reply, frame[2], tally);
+            }
             Err(refusal) => tally.count(format!("refusal {refusal}")),
         }
-        if changed || self.calls % 16 == 0 {
-            self.compare_states()?;
-        }
-        Ok(())
+        self.compare_states()
     }
 
     fn close(&mut self, connection: u32, tally: &mut Tally) -> Result<(), String> {
@@ -113,10 +117,17 @@ impl Pair {
         self.compare_states()
     }
 
-    fn compare_states(&self) -> Result<(), String> {
+    /// Whole states as bytes; now and then also what a host is shown of them.
+    fn compare_states(&mut self) -> Result<(), String> {
         let Some((ours, expected)) = &self.state else {
             return Ok(());
         };
+        self.bytes.clear();
+        expected.put_bytes(&mut self.bytes);
+        states(ours.bytes(), &self.bytes)?;
+        if self.calls % 16 != 0 {
+            return Ok(());
+        }
         same("the port", ours.port(), expected.port())?;
         same(
             "the next creation",
@@ -142,6 +153,22 @@ fn registration(of: &model::Registration) -> Registration {
         lowest: of.lowest,
         name: of.name.to_vec(),
         extra: of.extra.to_vec(),
+    }
+}
+
+/// What the model's reply says.
+fn asked_by(reply: &[u8], tag: u8) -> Asked {
+    match (tag, reply.len()) {
+        (120, 6) => Asked::Alive2 {
+            result: reply[1],
+            creation: u32::from_be_bytes(reply[2..].try_into().expect("four bytes")),
+        },
+        (120, _) => Asked::Alive2 {
+            result: reply[1],
+            creation: u32::from(reply[2]) * 256 + u32::from(reply[3]),
+        },
+        (122, length) => Asked::PortPlease2 { found: length > 2 },
+        _ => Asked::Names,
     }
 }
 

@@ -154,8 +154,10 @@ impl World {
                 self.send(link, side, &out, answer.written, tally);
                 self.leave_freed(link, side, answer);
             }
-            Err(refusal) => {
-                tally.count(format!("{:?}: refusal {}", before.stage, refusal.number()));
+            Err(refused) => {
+                let number = refused.refusal.number();
+                tally.count(format!("{:?}: refusal {number}", before.stage));
+                assert!(refused.slot_freed);
                 assert_eq!(
                     out, [PATTERN; ENDPOINT_OUTPUT],
                     "a refused call writes nothing"

@@ -18,7 +18,7 @@ array-borrow-prefix-space : tie.Need-array-borrow-prefix-space
 array-borrow-prefix-space c = search needs
 
 slice-aggregate-message : tie.Need-slice-aggregate-message
-slice-aggregate-message c = sym (length-take-le (c .before .room .result) (c .before .before .before .output .result) (omega (arith, c .before .room .ensures, c .before .before .before .output .ensures)))
+slice-aggregate-message c = sym (length-take-le (c .before .before .room .result) (c .before .before .before .before .output .result) (omega (arith, c .before .before .room .ensures, c .before .before .before .before .output .ensures)))
 
 message-requires : tie.Need-message-requires
 message-requires c κs = search needs

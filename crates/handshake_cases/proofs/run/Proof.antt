@@ -5,16 +5,10 @@ use Rattle.handshake_cases.proofs.run.Statement.{statement}
 use Rattle.handshake_cases.proofs.run.Tie as tie
 
 abbrev Inv-loop : tie.InvT-loop
-Inv-loop s p₀ i₀ p i = i ≤ length s
+Inv-loop s one₀ two₀ i₀ one two i = i ≤ length s
 
 abbrev μ-loop : tie.MeasureT-loop
-μ-loop s p₀ i₀ p i = length s - i
-
-blank-requires : tie.Need-blank-requires Inv-loop μ-loop
-blank-requires c κs = search needs
-
-blank-requires-2 : tie.Need-blank-requires-2 Inv-loop μ-loop
-blank-requires-2 c κs = search needs
+μ-loop s one₀ two₀ i₀ one two i = length s - i
 
 loop-holds : tie.Need-loop-holds Inv-loop μ-loop
 loop-holds c = search needs
@@ -67,8 +61,6 @@ run-spec =
     (tie.spec
     Inv-loop
     μ-loop
-    blank-requires
-    blank-requires-2
     loop-holds
     sub-loop
     get16-requires

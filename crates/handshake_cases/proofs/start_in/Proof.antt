@@ -18,7 +18,7 @@ array-borrow-prefix-space : tie.Need-array-borrow-prefix-space
 array-borrow-prefix-space c = search needs
 
 slice-aggregate-start : tie.Need-slice-aggregate-start
-slice-aggregate-start c = sym (length-take-le (c .before .room .result) (c .before .before .before .output .result) (omega (arith, c .before .room .ensures, c .before .before .before .output .ensures)))
+slice-aggregate-start c = sym (length-take-le (c .before .before .room .result) (c .before .before .before .before .output .result) (omega (arith, c .before .before .room .ensures, c .before .before .before .before .output .ensures)))
 
 start-requires : tie.Need-start-requires
 start-requires c κs = search needs

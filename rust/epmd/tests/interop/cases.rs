@@ -164,6 +164,10 @@ fn connections() -> Vec<Case> {
         case("ALIVE2 of a name taken, then ALIVE2", ride.clone())
             .then(alive2("other", 4371))
             .after(&taken),
+        case("ALIVE2 of a name taken, three times", ride.clone())
+            .then(ride.clone())
+            .then(ride.clone())
+            .after(&taken),
     ]
 }
 

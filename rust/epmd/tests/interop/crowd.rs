@@ -111,7 +111,15 @@ fn a_crowd_of_200_loses_no_name_and_costs_no_memory() {
     });
     assert!(nodes.iter_mut().all(is_open));
     for line in mapper.process.lines() {
-        let due = ["listening", "registered", "left"].contains(&line.split(' ').nth(1).unwrap());
+        // Most lines about nodes are left out; what they are about is told.
+        let words: Vec<&str> = line.split(' ').skip(1).collect();
+        let kind = words[1].strip_prefix("kind=");
+        let event = if words[0] == "left-out" {
+            kind
+        } else {
+            Some(words[0])
+        };
+        let due = ["listening", "registered", "left"].contains(&event.unwrap());
         assert!(due, "{line}");
     }
 }

@@ -172,6 +172,12 @@ pub const DIFFERENCES: &[Difference] = &[
         "second-request",
     ),
     row(
+        "ALIVE2 of a name taken, three times",
+        "118 1 0, 118 1 0, closed; ride",
+        "118 1 99, closed; ride",
+        "second-request",
+    ),
+    row(
         "KILL while a node is registered",
         "closed; ride",
         "NO, closed; ride",

@@ -28,9 +28,15 @@ pub struct Node {
 impl Node {
     /// Starts `erl -name NAME@127.0.0.1` on the mapper at `port`. It need not come up.
     pub fn spawn(name: &str, port: u16, words: &[&str]) -> Node {
+        let words = [&["-start_epmd", "false"], words].concat();
+        Node::spawn_as_usual(name, port, &words)
+    }
+
+    /// As above, but before it registers it starts the real epmd, which finds the port taken.
+    pub fn spawn_as_usual(name: &str, port: u16, words: &[&str]) -> Node {
         let mut command = Command::new("erl");
         command
-            .args(["-noshell", "-start_epmd", "false", "-setcookie", "monster"])
+            .args(["-noshell", "-setcookie", "monster"])
             .args(["-name", &format!("{name}@127.0.0.1")])
             .args(["-kernel", "inet_dist_use_interface", "{127,0,0,1}"])
             .args(["+S", "1:1", "-eval", LOOP])

@@ -108,3 +108,26 @@ fn a_hidden_node_is_found_and_connects_too() {
     );
     assert_eq!(names(mapper.port), ["a", "hidden"]);
 }
+
+/// `erl` runs `epmd -daemon` first, unless told not to.
+#[test]
+#[ignore = "needs erl: make check-interop"]
+fn a_node_that_starts_the_real_epmd_uses_this_mapper_if_it_was_first() {
+    let mut mapper = Mapper::start(&[]);
+    let mut node = Node::spawn_as_usual("a", mapper.port, &[]);
+    assert_eq!(node.eval("node()."), "'a@127.0.0.1'");
+    mapper.process.line_with("registered name=a ");
+    node.stop();
+    eventually("a is gone", || names(mapper.port).is_empty());
+    assert!(mapper.process.is_running());
+}
+
+#[test]
+#[ignore = "needs epmd: make check-interop"]
+fn where_the_real_epmd_was_first_this_mapper_says_so() {
+    let real = RealEpmd::start();
+    let output = run(&["--port", &real.port.to_string()]);
+    assert_eq!(output.status.code(), Some(1));
+    let message = text(&output.stderr[..]);
+    assert!(message.contains("Address already in use"), "{message}");
+}

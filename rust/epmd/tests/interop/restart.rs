@@ -1,5 +1,6 @@
 //! The mapper ends and comes back: nodes that are up register again by themselves.
 
+use std::sync::Arc;
 use std::time::{Duration, Instant};
 
 use crate::node::Node;
@@ -27,7 +28,7 @@ fn nodes_return_after(signal: &str) -> Duration {
     first.process.signal(signal);
     first.process.wait();
     assert_eq!(a.eval("nodes()."), "['b@127.0.0.1']");
-    let second = Mapper::at(port, &[]);
+    let second = Mapper::with_state(Arc::clone(&first.state), port, &[]);
     let start = Instant::now();
     eventually("both nodes are back", || names(port).len() == 2);
     let time = start.elapsed();

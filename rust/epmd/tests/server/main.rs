@@ -3,7 +3,12 @@
 #[path = "../support/mod.rs"]
 mod support;
 
+mod addresses;
+mod creations;
+mod crowds;
 mod limits;
+mod log;
+mod namespaces;
 mod program;
 mod refusals;
 mod requests;

@@ -2,6 +2,8 @@
 
 use std::io::Write;
 use std::net::Shutdown;
+use std::sync::atomic::{AtomicBool, Ordering};
+use std::sync::Arc;
 use std::thread::sleep;
 use std::time::{Duration, Instant};
 
@@ -169,36 +171,68 @@ fn of_two_requests_in_one_segment_the_first_is_answered() {
     assert_eq!(replies[6..8], [119, 0]);
 }
 
-/// Requests without end to the reading: the replies fill the room of both sides, and the mapper
-/// reads no further until there is room again.
+/// A connection cannot keep the mapper busy: its second ALIVE2 with a Result above 0 is its last.
 #[test]
-fn a_slow_reader_gets_every_byte_and_holds_up_nobody() {
-    const TIMES: usize = 60_000;
+fn of_many_alive2_that_fail_two_are_answered() {
     let mapper = Mapper::start(&[]);
-    let nodes: Vec<_> = (0..64)
-        .map(|at| register(mapper.port, &format!("{at:0255}"), 65_535))
-        .collect();
-    let mut reader = connect(mapper.port);
-    let mut writer = reader.try_clone().unwrap();
-    let sender = std::thread::spawn(move || {
-        let requests = alive2("x", 1).repeat(TIMES);
-        writer.write_all(&[&requests[..], NAMES].concat()).unwrap();
-    });
-    let answered = || mapper.process.line_count();
-    let mut before = 0;
-    eventually("the mapper reads no further", || {
-        let after = std::mem::replace(&mut before, answered());
-        sleep(Duration::from_millis(300));
-        after == answered()
-    });
-    assert!((100..TIMES).contains(&before), "{before} were answered");
-    assert_eq!(ask(mapper.port, &port_please2("ride")), b"w\x01");
-    let reply = read_for(&mut reader, PATIENCE);
+    let (_node, _) = register(mapper.port, "ride", 4370);
+    let mut repeats = connect(mapper.port);
+    let mut writer = repeats.try_clone().unwrap();
+    let requests = alive2("ride", 1).repeat(10_000);
+    let sender = std::thread::spawn(move || drop(writer.write_all(&requests)));
+    let reply = read_for(&mut repeats, PATIENCE);
     assert!(reply.closed);
-    let (results, list) = reply.bytes.split_at(6 * TIMES);
-    assert!(results.chunks(6).all(|it| it == [118, 1, 0, 0, 0, 0]));
-    assert_eq!(list, ask(mapper.port, NAMES));
-    assert_eq!(list.len(), 17_604);
+    assert_eq!(reply.bytes, [118, 1, 0, 0, 0, 0].repeat(2));
     sender.join().unwrap();
-    drop(nodes);
+    let failed = || {
+        let lines = mapper.process.lines();
+        let about = lines.iter().filter(|it| it.contains("not-registered"));
+        about.count()
+    };
+    eventually("both are told", || failed() >= 2);
+    assert_eq!(failed(), 2);
+}
+
+#[test]
+fn a_node_that_registers_twice_more_loses_its_name() {
+    let mapper = Mapper::start(&[]);
+    let (mut node, _) = register(mapper.port, "ride", 4370);
+    node.write_all(&alive2("other", 4371).repeat(2)).unwrap();
+    let reply = read_for(&mut node, PATIENCE);
+    assert!(reply.closed);
+    assert_eq!(reply.bytes, [118, 1, 0, 0, 0, 0].repeat(2));
+    assert!(names(mapper.port).is_empty());
+    mapper.process.line_with("registered again");
+}
+
+/// However much one connection sends at once, others are served between its requests.
+#[test]
+fn requests_in_a_row_make_nobody_wait() {
+    let mapper = Mapper::start(&["--quiet"]);
+    let _nodes: Vec<_> = (0..63)
+        .map(|at| register(mapper.port, &format!("n{at}"), at))
+        .collect();
+    let (_node, _) = register(mapper.port, "ride", 4370);
+    let over = Arc::new(AtomicBool::new(false));
+    let (port, ended) = (mapper.port, Arc::clone(&over));
+    let crowd = std::thread::spawn(move || {
+        let requests = alive2("ride", 1).repeat(3_000);
+        while !ended.load(Ordering::Relaxed) {
+            let mut stream = connect(port);
+            let _ = stream.write_all(&requests);
+            assert!(read_for(&mut stream, PATIENCE).closed);
+        }
+    });
+    let mut times: Vec<Duration> = (0..200)
+        .map(|_| {
+            let start = Instant::now();
+            assert_eq!(ask(mapper.port, &port_please2("ride")).len(), 18);
+            start.elapsed()
+        })
+        .collect();
+    over.store(true, Ordering::Relaxed);
+    crowd.join().unwrap();
+    times.sort();
+    // The machine may be busy with other tests for the longest of them.
+    assert!(times[190] < Duration::from_millis(20), "{times:?}");
 }

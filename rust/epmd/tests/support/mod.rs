@@ -2,10 +2,14 @@
 //! sends any bytes.
 
 // Each of them uses a part of this.
-#![allow(dead_code)]
+#![allow(dead_code, unused_imports)]
 
 mod client;
+mod namespace;
 mod process;
+mod system;
 
 pub use client::*;
+pub use namespace::*;
 pub use process::*;
+pub use system::*;

@@ -2,23 +2,36 @@
 
 use std::fs;
 use std::io::{BufRead, BufReader, Read, Write};
-use std::net::{Ipv4Addr, TcpListener, TcpStream};
-use std::process::{Child, Command, ExitStatus, Output, Stdio};
+use std::net::{Ipv4Addr, SocketAddr, TcpListener, TcpStream};
+use std::path::PathBuf;
+use std::process::{Child, ChildStdout, Command, ExitStatus, Output, Stdio};
+use std::sync::atomic::{AtomicU32, Ordering};
 use std::sync::{Arc, Mutex};
 use std::thread;
+use std::time::{Duration, Instant};
 
-use super::client::eventually;
+use super::client::{eventually, PATIENCE};
+use super::system::set_pipe_size;
 
-const BIRKEN_EPMD: &str = env!("CARGO_BIN_EXE_birken-epmd");
+pub const BIRKEN_EPMD: &str = env!("CARGO_BIN_EXE_birken-epmd");
 
 /// A running program whose lines, of both its outputs, are gathered.
 pub struct Process {
     child: Child,
     lines: Arc<Mutex<Vec<String>>>,
+    /// Its standard output, if nobody reads it yet.
+    unread: Option<ChildStdout>,
 }
 
 impl Process {
     pub fn start(command: &mut Command) -> Process {
+        let mut process = Process::start_unread(command);
+        process.read_on();
+        process
+    }
+
+    /// Nobody reads its standard output before `read_on`.
+    pub fn start_unread(command: &mut Command) -> Process {
         let mut child = command
             .stdin(Stdio::piped())
             .stdout(Stdio::piped())
@@ -26,9 +39,23 @@ impl Process {
             .spawn()
             .unwrap_or_else(|error| panic!("{command:?}: {error}"));
         let lines = Arc::default();
-        gather(child.stdout.take().expect("a pipe"), &lines);
         gather(child.stderr.take().expect("a pipe"), &lines);
-        Process { child, lines }
+        let unread = child.stdout.take();
+        Process {
+            child,
+            lines,
+            unread,
+        }
+    }
+
+    pub fn shrink_pipe(&self) {
+        set_pipe_size(self.unread.as_ref().expect("unread"), 4096);
+    }
+
+    pub fn read_on(&mut self) {
+        if let Some(pipe) = self.unread.take() {
+            gather(pipe, &self.lines);
+        }
     }
 
     /// Writes a line to the program, whose input ends with the test.
@@ -115,10 +142,39 @@ impl Drop for Process {
     }
 }
 
-/// A running `birken-epmd` on a port that it picked, or on the one given.
+/// A folder of the test's own, which is gone at its end.
+pub struct Folder(PathBuf);
+
+impl Folder {
+    pub fn new() -> Folder {
+        static COUNT: AtomicU32 = AtomicU32::new(0);
+        let number = COUNT.fetch_add(1, Ordering::Relaxed);
+        let name = format!("birken-epmd-test-{}-{number}", std::process::id());
+        let path = std::env::temp_dir().join(name);
+        fs::create_dir(&path).expect("a folder");
+        Folder(path)
+    }
+
+    pub fn path(&self) -> &str {
+        self.0.to_str().expect("UTF-8")
+    }
+
+    pub fn file(&self, name: &str) -> PathBuf {
+        self.0.join(name)
+    }
+}
+
+impl Drop for Folder {
+    fn drop(&mut self) {
+        let _ = fs::remove_dir_all(&self.0);
+    }
+}
+
+/// A running `birken-epmd` on a port that it picked, or on the one given, with a state of its own.
 pub struct Mapper {
     pub process: Process,
     pub port: u16,
+    pub state: Arc<Folder>,
 }
 
 impl Mapper {
@@ -127,31 +183,69 @@ impl Mapper {
     }
 
     pub fn at(port: u16, words: &[&str]) -> Mapper {
+        Mapper::with_state(Arc::new(Folder::new()), port, words)
+    }
+
+    /// With the state of a mapper that has ended.
+    pub fn with_state(state: Arc<Folder>, port: u16, words: &[&str]) -> Mapper {
+        let mut command = birken_epmd();
         let port = format!("--port={port}");
-        Mapper::of(Command::new(BIRKEN_EPMD).arg(port).args(words))
+        command.args([&port, "--state-dir", state.path()]);
+        Mapper::of(command.args(words), state)
     }
 
-    /// With at most so many open files.
-    pub fn with_files(files: u32) -> Mapper {
-        let line = format!("ulimit -n {files} && exec \"$0\" --port 0");
-        Mapper::of(Command::new("sh").args(["-c", &line, BIRKEN_EPMD]))
-    }
-
-    fn of(command: &mut Command) -> Mapper {
+    /// Once it listens.
+    pub fn of(command: &mut Command, state: Arc<Folder>) -> Mapper {
         let process = Process::start(command);
         let line = process.line_with("listening");
-        let address = line.split("127.0.0.1:").nth(1).expect("an address");
-        let digits: String = address.chars().take_while(char::is_ascii_digit).collect();
-        let port = digits.parse().expect("a port");
-        Mapper { process, port }
+        let port = port_in(&line);
+        Mapper {
+            process,
+            port,
+            state,
+        }
     }
+}
+
+/// The port at the end of the address in a line about listening.
+pub fn port_in(line: &str) -> u16 {
+    let mut addresses = line.split(['=', '"', ' ']).filter(|it| it.contains(':'));
+    let address = addresses.find_map(|it| it.parse::<SocketAddr>().ok());
+    address.expect("an address").port()
+}
+
+/// The program, without what the environment of the tests might tell it.
+pub fn birken_epmd() -> Command {
+    let mut command = Command::new(BIRKEN_EPMD);
+    for name in ["ERL_EPMD_PORT", "ERL_EPMD_ADDRESS", "STATE_DIRECTORY"] {
+        command.env_remove(name);
+    }
+    command
 }
 
 /// Runs `birken-epmd` to its end.
 pub fn run(words: &[&str]) -> Output {
-    let mut command = Command::new(BIRKEN_EPMD);
-    command.args(words).stdin(Stdio::null());
-    command.output().expect("birken-epmd")
+    let state = Folder::new();
+    let mut command = birken_epmd();
+    // Where the default leads, should these words not name a folder.
+    command.env("XDG_STATE_HOME", state.path());
+    outcome(command.args(words))
+}
+
+/// Runs a program that ends by itself, to its end.
+pub fn outcome(command: &mut Command) -> Output {
+    let command = command.stdin(Stdio::null()).stdout(Stdio::piped());
+    let mut child = command.stderr(Stdio::piped()).spawn().expect("a program");
+    let end = Instant::now() + PATIENCE;
+    while child.try_wait().expect("wait").is_none() {
+        if Instant::now() > end {
+            let _ = child.kill();
+            let _ = child.wait();
+            panic!("not ended within {PATIENCE:?}: {command:?}");
+        }
+        thread::sleep(Duration::from_millis(5));
+    }
+    child.wait_with_output().expect("its output")
 }
 
 /// The real epmd on a port of its own, loopback only.
@@ -177,6 +271,11 @@ impl RealEpmd {
 pub fn free_port() -> u16 {
     let listener = TcpListener::bind((Ipv4Addr::LOCALHOST, 0)).expect("bind");
     listener.local_addr().expect("address").port()
+}
+
+/// A line that is seen although the test passes.
+pub fn say(line: &str) {
+    let _ = writeln!(std::io::stderr(), "{line}");
 }
 
 /// All of a pipe's text.

@@ -1,7 +1,0 @@
-pub mod RegistryLaws
-pub mod RequestLaws
-pub mod ReplyLaws
-pub mod ServeLaws
-pub mod Calls
-pub mod Reachable
-pub mod Promises

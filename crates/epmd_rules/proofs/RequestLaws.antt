@@ -1,0 +1,212 @@
+-- What a body asks for, by the tests that code makes. Assumes nothing.
+use Prim.Native.Nat.{ℕ, _+_, _≤_, _<_}
+use mathlib.Core.Path.{_≡_, refl, sym, ap, _∙_}
+use mathlib.Core.Bool.{Bool, true, false, _&&_, _||_, not}
+use mathlib.Core.List.{List, [], _∷_}
+use native.Mathlib.Omega.{arith}
+use borrow.Author.Tests.{lt-leb, le-leb, leb-true, eq-eqb, ne-eqb, eqb-true}
+use lib.ListN.{length, drop, length-drop}
+use lib.Dec.{eqb, leb}
+use Rattle.wire.specs.Number.{beAt}
+use Rattle.wire.specs.Frame.{isFrame, body}
+use Rattle.wire.specs.Layout.{extent, intAt, runAt}
+use Rattle.wire.proofs.RunLaws.{and-left, and-right, part-length}
+use Rattle.wire.proofs.FrameLaws.{frame-told}
+use Rattle.names.specs.Utf8.{utf8}
+use Rattle.names.specs.Node.{lacks, nodeName}
+use Rattle.epmd_rules.specs.declared.refusal.Refusal.{Refusal}
+use Rattle.epmd_rules.specs.declared.refusal.Refusal.the-variants.{OutputTooShort, NotAFrame, UnknownTag, BadLength, BadName, BadVersions, NotServed}
+use Rattle.epmd_rules.specs.declared.request.Request.{Request}
+use Rattle.epmd_rules.specs.declared.request.Request.the-variants.{Refused, Alive2, PortPlease2, Names}
+use Rattle.epmd_rules.specs.Messages.{alive2Req}
+use Rattle.epmd_rules.specs.Serve.{Alive2Body}
+use Rattle.epmd_rules.specs.Requests.{room, tag, byTag, isServed, isWithheld, lengthAgrees, nameAllowed, versionsOk, versionsAllowed, Check, _else_, firstRefusal, bodyChecks, examineBody, examineOf}
+
+-- ---- ALIVE2_REQ
+
+-- the two lengths that an ALIVE2 body tells
+abbrev pub nlen : List ℕ → ℕ
+nlen b = beAt 2 9 b
+
+abbrev pub elen : List ℕ → ℕ
+elen b = beAt 2 (11 + nlen b) b
+
+module _ (b : List ℕ) (tag : beAt 1 0 b ≡ 120) where
+  pub alive2-length : (length b ≡ extent alive2Req b → ⊥) → examineBody b ≡ Refused BadLength
+  unfolding examineBody isWithheld
+  alive2-length h = rw (tag, ne-eqb (length b) (extent alive2Req b) h)
+
+  module _ (whole : length b ≡ extent alive2Req b) where
+    extra-length : length (runAt alive2Req 7 b) ≡ elen b
+    extra-length = part-length (11 + nlen b + 2) (elen b) b (omega arith)
+
+    pub alive2-extra : 128 < elen b → examineBody b ≡ Refused BadLength
+    unfolding examineBody isWithheld
+    alive2-extra h = rw (tag, eq-eqb (length b) (extent alive2Req b) whole, extra-length, lt-leb (elen b) 128 h)
+
+    module _ (short : elen b ≤ 128) where
+      pub alive2-name : nodeName (runAt alive2Req 6 b) ≡ false → examineBody b ≡ Refused BadName
+      unfolding examineBody isWithheld
+      alive2-name h = rw (tag, eq-eqb (length b) (extent alive2Req b) whole, extra-length, le-leb (elen b) 128 short, h)
+
+      module _ (named : nodeName (runAt alive2Req 6 b) ≡ true) where
+        pub alive2-versions : versionsOk (intAt alive2Req 4 b) (intAt alive2Req 5 b) ≡ false → examineBody b ≡ Refused BadVersions
+        unfolding examineBody isWithheld
+        alive2-versions h = rw (tag, eq-eqb (length b) (extent alive2Req b) whole, extra-length, le-leb (elen b) 128 short, named, h)
+
+        pub alive2-asked : versionsOk (intAt alive2Req 4 b) (intAt alive2Req 5 b) ≡ true → examineBody b ≡ Alive2
+        unfolding examineBody isWithheld
+        alive2-asked h = rw (tag, eq-eqb (length b) (extent alive2Req b) whole, extra-length, le-leb (elen b) 128 short, named, h)
+
+-- ---- PORT_PLEASE2_REQ and NAMES_REQ
+
+module _ (b : List ℕ) (tag : beAt 1 0 b ≡ 122) where
+  pub port2-name : nodeName (drop 1 b) ≡ false → examineBody b ≡ Refused BadName
+  unfolding examineBody isWithheld
+  port2-name h = rw (tag, h)
+
+  pub port2-asked : nodeName (drop 1 b) ≡ true → examineBody b ≡ PortPlease2
+  unfolding examineBody isWithheld
+  port2-asked h = rw (tag, h)
+
+module _ (b : List ℕ) (tag : beAt 1 0 b ≡ 110) where
+  pub names-length : (length b ≡ 1 → ⊥) → examineBody b ≡ Refused BadLength
+  unfolding examineBody isWithheld
+  names-length h = rw (tag, ne-eqb (length b) 1 h)
+
+  pub names-asked : length b ≡ 1 → examineBody b ≡ Names
+  unfolding examineBody isWithheld
+  names-asked h = rw (tag, eq-eqb (length b) 1 h)
+
+-- ---- other tags
+
+module _ (b : List ℕ) (t : ℕ) (tag : t ≡ beAt 1 0 b) (a : t ≡ 120 → ⊥) (p : t ≡ 122 → ⊥) (n : t ≡ 110 → ⊥) where
+  pub tag-withheld : isWithheld t ≡ true → examineBody b ≡ Refused NotServed
+  unfolding examineBody
+  tag-withheld h = rw (← tag, ne-eqb t 120 a, ne-eqb t 122 p, ne-eqb t 110 n, h)
+
+  pub tag-unknown : isWithheld t ≡ false → examineBody b ≡ Refused UnknownTag
+  unfolding examineBody
+  tag-unknown h = rw (← tag, ne-eqb t 120 a, ne-eqb t 122 p, ne-eqb t 110 n, h)
+
+-- ---- frames
+
+module _ (frame : List ℕ) (given : ℕ) where
+  pub no-room : given < room → examineOf frame given ≡ Refused OutputTooShort
+  unfolding examineOf
+  no-room h = rw (lt-leb room given h)
+
+  pub no-frame : room ≤ given → isFrame frame ≡ false → examineOf frame given ≡ Refused NotAFrame
+  unfolding examineOf
+  no-frame h f = rw (le-leb room given h, f)
+
+  pub framed-body : room ≤ given → isFrame frame ≡ true → examineOf frame given ≡ examineBody (body frame)
+  unfolding examineOf examineBody
+  framed-body h f = rw (le-leb room given h, f)
+
+-- ---- what is known of a request that is not refused
+
+abbrev isAsked : Request → Bool
+isAsked (Refused n) = false
+isAsked Alive2 = true
+isAsked PortPlease2 = true
+isAsked Names = true
+
+passes : (h : Bool) (n : Refusal) (cs : List Check) (q : Request) → isAsked (firstRefusal ((h else n) ∷ cs) q) ≡ true → (h ≡ true) × (isAsked (firstRefusal cs q) ≡ true)
+passes true n cs q e = (refl, e)
+passes false n cs q e = let z : _≡_ {A = ℕ} 0 1 = cc in absurd (omega arith)
+
+-- all tests held, and the request is the one of its tag
+pub record Passed (frame : List ℕ) (given : ℕ) : Type 0 where
+  pub room-given : room ≤ given
+  pub framed : isFrame frame ≡ true
+  pub length-agrees : lengthAgrees (body frame) ≡ true
+  pub name-allowed : nameAllowed (body frame) ≡ true
+  pub kind : examineOf frame given ≡ byTag (tag (body frame)) Alive2 PortPlease2 Names
+
+passed : (frame : List ℕ) (given : ℕ) → isAsked (examineOf frame given) ≡ true → Passed frame given
+unfolding examineOf
+passed frame given e =
+    let b = body frame in
+    let q : Request = byTag (tag b) Alive2 PortPlease2 Names in
+    let c7 : List Check = (versionsAllowed b else BadVersions) ∷ [] in
+    let c6 : List Check = (nameAllowed b else BadName) ∷ c7 in
+    let c5 : List Check = (lengthAgrees b else BadLength) ∷ c6 in
+    let c8 : List Check = (not (isWithheld (tag b)) else NotServed) ∷ c5 in
+    let p1 = passes (leb room given) OutputTooShort ((isFrame frame else NotAFrame) ∷ bodyChecks b) q e in
+    let p3 = passes (isFrame frame) NotAFrame (bodyChecks b) q (p1 .1) in
+    let p4 = passes (isServed (tag b) || isWithheld (tag b)) UnknownTag c8 q (p3 .1) in
+    let p8 = passes (not (isWithheld (tag b))) NotServed c5 q (p4 .1) in
+    let p5 = passes (lengthAgrees b) BadLength c6 q (p8 .1) in
+    let p6 = passes (nameAllowed b) BadName c7 q (p5 .1) in
+    let p7 = passes (versionsAllowed b) BadVersions [] q (p6 .1) in
+    record {
+      room-given = leb-true room given (p1 .0);
+      framed = p3 .0;
+      length-agrees = p5 .0;
+      name-allowed = p6 .0;
+      kind = rw (p1 .0, p3 .0, p4 .0, p8 .0, p5 .0, p6 .0, p7 .0);
+    }
+
+-- the request's kind tells the tag
+tag-kind : (t : ℕ) (q : Request) → byTag t Alive2 PortPlease2 Names ≡ q → (q ≡ Alive2 → t ≡ 120) × (q ≡ PortPlease2 → t ≡ 122)
+tag-kind t q e = by (eqb t 120) refl (eqb t 122) refl where
+  by : (a : Bool) → eqb t 120 ≡ a → (p : Bool) → eqb t 122 ≡ p → (q ≡ Alive2 → t ≡ 120) × (q ≡ PortPlease2 → t ≡ 122)
+  by true f p g =
+      let k : Alive2 ≡ q = sym (rw f) ∙ e in
+      (λ h. eqb-true t 120 f, λ h. let z : _≡_ {A = ℕ} 0 1 = cc in absurd (omega arith))
+  by false f true g =
+      let k : PortPlease2 ≡ q = sym (rw (f, g)) ∙ e in
+      (λ h. let z : _≡_ {A = ℕ} 0 1 = cc in absurd (omega arith), λ h. eqb-true t 122 g)
+  by false f false g =
+      let k : Names ≡ q = sym (rw (f, g)) ∙ e in
+      (λ h. let z : _≡_ {A = ℕ} 0 1 = cc in absurd (omega arith), λ h. let z : _≡_ {A = ℕ} 0 1 = cc in absurd (omega arith))
+
+node-some : (bs : List ℕ) → nodeName bs ≡ true → 1 ≤ length bs
+unfolding nodeName
+node-some bs e =
+    let a = leb 1 (length bs) in
+    let b = leb (length bs) 255 in
+    let c = a && b && utf8 bs in
+    leb-true 1 (length bs) (and-left a b (and-left (a && b) (utf8 bs) (and-left c (lacks 0 bs) (and-left (c && lacks 0 bs) (lacks 64 bs) e))))
+
+node-short : (bs : List ℕ) → nodeName bs ≡ true → length bs ≤ 255
+unfolding nodeName
+node-short bs e =
+    let a = leb 1 (length bs) in
+    let b = leb (length bs) 255 in
+    let c = a && b && utf8 bs in
+    leb-true (length bs) 255 (and-right a b (and-left (a && b) (utf8 bs) (and-left c (lacks 0 bs) (and-left (c && lacks 0 bs) (lacks 64 bs) e))))
+
+-- what is known at each request
+module _ (frame : List ℕ) (given : ℕ) (q : Request) (asked : isAsked q ≡ true) (e : examineOf frame given ≡ q) where
+  pub request-passed : Passed frame given
+  request-passed = passed frame given (ap isAsked e ∙ asked)
+
+  pub request-body : (2 ≤ length frame) × (1 ≤ length (body frame))
+  unfolding body
+  request-body =
+      let f = frame-told frame (request-passed .framed) in
+      (omega (arith, f .0), omega (arith, f .0, f .1, length-drop 2 frame))
+
+pub alive2-named : (frame : List ℕ) (given : ℕ) → examineOf frame given ≡ Alive2 → nodeName (runAt alive2Req 6 (body frame)) ≡ true
+alive2-named frame given e =
+    let p = request-passed frame given Alive2 refl e in
+    let b = body frame in
+    let t : tag b ≡ 120 = tag-kind (tag b) Alive2 (sym (p .kind) ∙ e) .0 refl in
+    ap (λ (k : ℕ). byTag k (nodeName (runAt alive2Req 6 b)) (nodeName (drop 1 b)) true) (sym t) ∙ p .name-allowed
+
+pub alive2-name-some : (frame : List ℕ) (given : ℕ) → examineOf frame given ≡ Alive2 → 1 ≤ length (runAt alive2Req 6 (body frame))
+alive2-name-some frame given e = node-some (runAt alive2Req 6 (body frame)) (alive2-named frame given e)
+
+pub alive2-body : (frame : List ℕ) (given : ℕ) → examineOf frame given ≡ Alive2 → Alive2Body (body frame)
+alive2-body frame given e =
+    let p = request-passed frame given Alive2 refl e in
+    let b = body frame in
+    let t : tag b ≡ 120 = tag-kind (tag b) Alive2 (sym (p .kind) ∙ e) .0 refl in
+    let l : eqb (length b) (extent alive2Req b) && leb (length (runAt alive2Req 7 b)) 128 ≡ true = ap (λ (k : ℕ). byTag k (eqb (length b) (extent alive2Req b) && leb (length (runAt alive2Req 7 b)) 128) true (eqb (length b) 1)) (sym t) ∙ p .length-agrees in
+    record {
+      whole = eqb-true (length b) (extent alive2Req b) (and-left (eqb (length b) (extent alive2Req b)) (leb (length (runAt alive2Req 7 b)) 128) l);
+      name = node-short (runAt alive2Req 6 b) (alive2-named frame given e);
+      extra = leb-true (length (runAt alive2Req 7 b)) 128 (and-right (eqb (length b) (extent alive2Req b)) (leb (length (runAt alive2Req 7 b)) 128) l);
+    }

@@ -1,0 +1,9 @@
+pub mod State
+pub mod Registration
+pub mod Registry
+pub mod Messages
+pub mod Requests
+pub mod Replies
+pub mod Serve
+pub mod Answers
+pub mod Claims
