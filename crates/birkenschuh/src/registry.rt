@@ -5,9 +5,9 @@ ghost use Rattle.epmd_rules.specs.Registry.{newOf, closeOf, entryAt};
 ghost use Rattle.epmd_rules.specs.Serve.{requestOf};
 ghost use Rattle.epmd_state.specs.Bytes.{registryOf, Closes};
 ghost use Rattle.birkenschuh.specs.Registry.{Makes, Serves};
+use epmd::SIZE;
 use epmd_rules::answer::Numbers;
 use epmd_rules::registration::Registration;
-use epmd_state::layout::SIZE;
 
 #[no_mangle]
 pub extern "C" fn bks_registry_new(r: &mut [u8; SIZE], port: u16, first: u32) -> u32

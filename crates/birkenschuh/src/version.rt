@@ -16,7 +16,7 @@ pub extern "C" fn bks_abi() -> u32
 pub extern "C" fn bks_registry_size() -> usize
     ensures { λ r. ⌜ r ≡ size ⌝ }
 {
-    epmd_state::layout::SIZE
+    epmd::SIZE
 }
 
 #[no_mangle]

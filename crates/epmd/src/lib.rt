@@ -13,3 +13,5 @@ pub use calls::make;
 pub use calls::next;
 pub use calls::port;
 pub use calls::request;
+pub use epmd_messages::replies::ROOM;
+pub use epmd_state::layout::SIZE;

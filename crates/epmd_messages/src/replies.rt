@@ -37,30 +37,21 @@ fn short_field(result: u8, creation: u32) -> u16
 fn alive2_x_resp(result: u8, creation: u32) -> [u8; 6]
     ensures { λ r. ⌜ r ≡ encode alive2XResp (int 118 ∷ int result ∷ int creation ∷ []) ⌝ }
 {
-    let r = result as u16;
-    let c = creation / 256;
-    let b = c / 256;
-    let a = b / 256;
-    [
-        118,
-        (r % 256) as u8,
-        (a % 256) as u8,
-        (b % 256) as u8,
-        (c % 256) as u8,
-        (creation % 256) as u8,
-    ]
+    let mut b = [0u8; 6];
+    wire::put8(&mut b, 0, 118);
+    wire::put8(&mut b, 1, result);
+    wire::put32(&mut b, 2, creation);
+    b
 }
 
 fn alive2_resp(result: u8, creation: u16) -> [u8; 4]
     ensures { λ r. ⌜ r ≡ encode alive2Resp (int 121 ∷ int result ∷ int creation ∷ []) ⌝ }
 {
-    let r = result as u16;
-    [
-        121,
-        (r % 256) as u8,
-        (creation / 256 % 256) as u8,
-        (creation % 256) as u8,
-    ]
+    let mut b = [0u8; 4];
+    wire::put8(&mut b, 0, 121);
+    wire::put8(&mut b, 1, result);
+    wire::put16(&mut b, 2, creation);
+    b
 }
 
 // Writes the reply to ALIVE2_REQ, and tells its length.
@@ -83,22 +74,16 @@ pub fn put_alive2_reply(out: &mut [u8], highest: u16, result: u8, creation: u32)
 fn port2_head(port: u16, kind: u8, protocol: u8, highest: u16, lowest: u16, n: u16) -> [u8; 12]
     ensures { λ r. ⌜ r ≡ encode port2Head (int 119 ∷ int 0 ∷ int port ∷ int kind ∷ int protocol ∷ int highest ∷ int lowest ∷ int n ∷ []) ⌝ }
 {
-    let k = kind as u16;
-    let p = protocol as u16;
-    [
-        119,
-        0,
-        (port / 256 % 256) as u8,
-        (port % 256) as u8,
-        (k % 256) as u8,
-        (p % 256) as u8,
-        (highest / 256 % 256) as u8,
-        (highest % 256) as u8,
-        (lowest / 256 % 256) as u8,
-        (lowest % 256) as u8,
-        (n / 256 % 256) as u8,
-        (n % 256) as u8,
-    ]
+    let mut b = [0u8; 12];
+    wire::put8(&mut b, 0, 119);
+    wire::put8(&mut b, 1, 0);
+    wire::put16(&mut b, 2, port);
+    wire::put8(&mut b, 4, kind);
+    wire::put8(&mut b, 5, protocol);
+    wire::put16(&mut b, 6, highest);
+    wire::put16(&mut b, 8, lowest);
+    wire::put16(&mut b, 10, n);
+    b
 }
 
 // Writes PORT2_RESP for what is registered, and tells its length.

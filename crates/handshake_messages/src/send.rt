@@ -70,6 +70,15 @@ pub fn send_challenge(
     21 + n
 }
 
+fn status_header(n: u8) -> [u8; 3]
+    ensures { λ r. ⌜ r ≡ be 2 (1 + n) ++ (115 ∷ []) ⌝ }
+{
+    let mut h = [0u8; 3];
+    wire::put16(&mut h, 0, 1 + n as u16);
+    wire::put8(&mut h, 2, 115);
+    h
+}
+
 // Writes a status from the first byte on, and tells its length.
 pub fn send_status(out: &mut [u8], word: &[u8]) -> usize
     requires { ⌜ (length (now word) ≤ 15) × Roomy (now out) ⌝ }
@@ -77,8 +86,7 @@ pub fn send_status(out: &mut [u8], word: &[u8]) -> usize
     ensures { λ _. ⌜ now (out .exit) ≡ written (statusMessage (now (word .entry))) (now (out .entry)) ⌝ }
 {
     let n = word.len();
-    let l = 1 + n;
-    let h = [(l / 256 % 256) as u8, (l % 256) as u8, 115];
+    let h = status_header(n as u8);
     wire::put_bytes(out, 0, &h);
     wire::put_bytes(out, 3, word);
     3 + n

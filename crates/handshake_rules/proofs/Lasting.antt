@@ -32,7 +32,7 @@ use Rattle.handshake_rules.specs.Cookie.{Cookies, checking, writing, fit
 use Rattle.handshake_rules.specs.Plans.{Done, stop, go, Plan, sure, proven, fails, judged, settled, spared, finished, concluded}
 use Rattle.handshake_rules.specs.Accepting.{greeting, onName, older}
 use Rattle.handshake_rules.specs.Connecting.{reaction, onStatus}
-use Rattle.handshake_rules.specs.Calls.{opened, startTests, arriveTests, closeTests, begun, arrived, silent, kept, startOf, arriveOf, closeOf, expected, awaited, earlyTests, messageTests, plan, messageOf}
+use Rattle.handshake_rules.specs.Calls.{room, opened, startTests, arriveTests, closeTests, begun, arrived, silent, kept, startOf, arriveOf, closeOf, expected, awaited, earlyTests, messageTests, plan, messageOf}
 use Rattle.handshake_rules.specs.Runs.{Call, Start, Arrive, Close, Message, step, next, ends}
 use Rattle.handshake_rules.specs.SlotClaims.{Carries, Shown, EndedBy, Lasting, peer, kindOf}
 use Rattle.handshake_rules.proofs.CheckLaws.{not-not, unless-elim}
@@ -140,9 +140,9 @@ module _ (g : Endpoint) (many : length (g .slots) ≡ 32) (i : ℕ) (up : slotAt
 
   -- a message on this very slot is refused, and keeps
   early-kept : (s size : ℕ) (x : Bool) → (r : Refusal) × ((checked (earlyTests s Connected size x) ≡ Refuse r) × (messageFate r ≡ keep))
-  early-kept s size x = by (ltb size 300) (leb 32 s) refl refl
+  early-kept s size x = by (ltb size room) (leb 32 s) refl refl
     where
-      by : (a b : Bool) → ltb size 300 ≡ a → leb 32 s ≡ b → (r : Refusal) × ((checked (earlyTests s Connected size x) ≡ Refuse r) × (messageFate r ≡ keep))
+      by : (a b : Bool) → ltb size room ≡ a → leb 32 s ≡ b → (r : Refusal) × ((checked (earlyTests s Connected size x) ≡ Refuse r) × (messageFate r ≡ keep))
       by true b p q = (OutputTooShort, (rw p, refl))
       by false true p q = (SlotNotTaken, (rw (p, q), refl))
       by false false p q = (AlreadyConnected, (rw (p, q), refl))

@@ -34,7 +34,7 @@ use Rattle.handshake_rules.specs.Cookie.{Cookies, checking, writing, dig
 use Rattle.handshake_rules.specs.Plans.{Done, Act, proven, fails, Expected, stagePlan, judged, refused, answered, settled, render, finished, concluded, moved, plain}
 use Rattle.handshake_rules.specs.Accepting.{greeting, contest, isGreater}
 use Rattle.handshake_rules.specs.Connecting.{expectAck}
-use Rattle.handshake_rules.specs.Calls.{startTests, startOf, begun, silent, kept, expected, awaited, earlyTests, frameTests, plan, onFrame, messageOf}
+use Rattle.handshake_rules.specs.Calls.{room, startTests, startOf, begun, silent, kept, expected, awaited, earlyTests, frameTests, plan, onFrame, messageOf}
 use Rattle.handshake_rules.proofs.CheckLaws.{not-not, andThen, checked-append, none-holds, unless-elim}
 use Rattle.handshake_rules.proofs.MessageLaws.{full-short}
 
@@ -60,10 +60,10 @@ module _ (g : Endpoint) (n : List ℕ) (size : ℕ) where
   unfolding startOf
   start-begun e = rw e
 
-  pub may-start : checked (startTests g n size) ≡ Pass → (lowestFree g < 32) × (length n ≤ 255) × (300 ≤ size)
+  pub may-start : checked (startTests g n size) ≡ Pass → (lowestFree g < 32) × (length n ≤ 255) × (room ≤ size)
   may-start e =
       let h = none-holds (startTests g n size) e in
-      (ltb-true (lowestFree g) 32 (not-not _ (h .1 .1 .1 .0)), full-short n (not-not _ (h .1 .0)), ltb-false size 300 (h .0))
+      (ltb-true (lowestFree g) 32 (not-not _ (h .1 .1 .1 .0)), full-short n (not-not _ (h .1 .0)), ltb-false size room (h .0))
 
 -- ---- a stage
 
@@ -148,10 +148,10 @@ fit-ack k e = allowed-short k e
 
 -- ---- message
 
-pub early-passed : (s : ℕ) (st : Stage) (size : ℕ) (x : Bool) → checked (earlyTests s st size x) ≡ Pass → (s < 32) × (x ≡ true) × (300 ≤ size)
+pub early-passed : (s : ℕ) (st : Stage) (size : ℕ) (x : Bool) → checked (earlyTests s st size x) ≡ Pass → (s < 32) × (x ≡ true) × (room ≤ size)
 early-passed s st size x e =
     let h = none-holds (earlyTests s st size x) e in
-    (leb-false 32 s (or-left (leb 32 s) _ (h .1 .0)), not-not x (h .1 .1 .1 .0), ltb-false size 300 (h .0))
+    (leb-false 32 s (or-left (leb 32 s) _ (h .1 .0)), not-not x (h .1 .1 .1 .0), ltb-false size room (h .0))
   where
     or-left : (a b : Bool) → (a || b) ≡ false → a ≡ false
     or-left true b e = e

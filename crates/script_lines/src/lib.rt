@@ -15,6 +15,6 @@ pub use line::item_of;
 pub use run::run as run_script;
 
 // How many bytes an answer takes at most (a NAMES reply), and how many characters of a line are held.
-pub(crate) const ANSWER: usize = 14 + 2 * epmd_messages::replies::ROOM;
+pub(crate) const ANSWER: usize = 14 + 2 * epmd::ROOM;
 
 pub(crate) const HELD: usize = 801;

@@ -8,7 +8,7 @@ use crate::script::finish;
 use crate::script::has_ended;
 use crate::script::start;
 use crate::script::take;
-use epmd_state::layout::SIZE;
+use epmd::SIZE;
 use libc::STDIN_FILENO;
 use libc::STDOUT_FILENO;
 ghost use Prim.Native.Nat.{_-_, _<_, _≤_};

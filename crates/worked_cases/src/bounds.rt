@@ -4,8 +4,8 @@ ghost use Prim.Native.Nat.{_≤_};
 use crate::ask;
 use crate::print::first;
 use crate::print::word;
-use epmd_messages::replies::ROOM;
-use epmd_state::layout::SIZE;
+use epmd::ROOM;
+use epmd::SIZE;
 
 fn digit(n: usize) -> u8 {
     (48 + n % 10) as u8

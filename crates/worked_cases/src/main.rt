@@ -2,8 +2,9 @@
 // number that it gives. stdout was written by hand from 01. That C1 to C9 hold of
 // the definitions is a theorem of `worked`.
 use bounds::show_bounds;
-use epmd_messages::replies::ROOM;
-use epmd_state::layout::SIZE;
+use epmd::ROOM;
+use epmd::SIZE;
+use handshake::ROOM as MESSAGE;
 use handshake::SIZE as ENDPOINT;
 use print::bytes;
 use print::first;
@@ -42,8 +43,8 @@ fn show_mapper(alive2: &[u8]) {
 fn show_messages() {
     let mut a = [0u8; ENDPOINT];
     let mut b = [0u8; ENDPOINT];
-    let mut out = [0u8; 300];
-    let mut back = [0u8; 300];
+    let mut out = [0u8; MESSAGE];
+    let mut back = [0u8; MESSAGE];
     handshake::calls::make(&mut a, b"a@b", 0x1000104, 7);
     handshake::calls::make(&mut b, b"b@b", 0x1000104, 8);
     handshake::calls::start(&mut a, b"b@b", &mut out);
