@@ -41,15 +41,20 @@ pub fn is_free(bytes: &[u8]) -> bool
     wire::get8(bytes, NAME_LEN) == 0
 }
 
-// Whether the name has n bytes, of which this is the last (0 if there is none).
+// Whether the name has n bytes, of which this is the last (0 if there is none). The last byte is
+// looked at first: it seldom fits, at a free place never, so that the way taken can be foretold.
 pub(crate) fn is_like(bytes: &[u8], n: usize, last: u8) -> bool
     requires { ⌜ length (now bytes) ≡ entrySize ⌝ }
     ensures { λ r. ⌜ r ≡ isLike n last (entryBy (now (bytes .entry))) ⌝ }
 {
-    if wire::get8(bytes, NAME_LEN) as usize != n {
+    let len = wire::get8(bytes, NAME_LEN) as usize;
+    if NAME_ROOM < n {
         return false;
     }
-    wire::get8(bytes, NAME_LEN + n) == last
+    if wire::get8(bytes, NAME_LEN + n) != last {
+        return false;
+    }
+    len == n
 }
 
 pub fn name(bytes: &[u8]) -> &[u8]

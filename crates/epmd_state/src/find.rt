@@ -1,6 +1,6 @@
 // Look-up: each tells the lowest place that is sought, or 64. A look-up by name is what a mapper does
-// most, so the loop that it runs reads one byte of a place, the length of its name, and where that is
-// right the name's last byte: names of one length often differ there alone.
+// most, so the loop that it runs reads one byte of a place, the one that would be the name's last, and
+// where that is right the length: most names differ there.
 use crate::entry;
 use crate::entry::record_of;
 use crate::layout::PLACES;
