@@ -136,11 +136,12 @@ fn long_frames_share_a_bounded_memory() {
     let grown = mapper.process.memory("VmRSS").saturating_sub(before);
     assert!(grown < 7 << 10, "{grown} KiB");
     assert_eq!(names(mapper.port), ["ride"]);
-    // Those that found room are served, and give it back.
-    let first = &mut clients[0];
-    first.write_all(b"z").unwrap();
-    assert!(read_for(first, PATIENCE).closed);
+    // Those that found room are served, and give it back; which ones did depends on how their bytes came.
+    for client in &mut clients {
+        let _ = client.write_all(b"z");
+    }
     mapper.process.line_with("refused refusal=6");
+    assert!(read_for(&mut clients[0], PATIENCE).closed);
     drop(clients);
     let mut again = send(mapper.port, &unfinished);
     assert!(is_open(&mut again));
