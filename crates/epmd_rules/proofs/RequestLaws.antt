@@ -173,7 +173,7 @@ node-some bs e =
     let c = a && b && utf8 bs in
     leb-true 1 (length bs) (and-left a b (and-left (a && b) (utf8 bs) (and-left c (lacks 0 bs) (and-left (c && lacks 0 bs) (lacks 64 bs) e))))
 
-node-short : (bs : List ℕ) → nodeName bs ≡ true → length bs ≤ 255
+pub node-short : (bs : List ℕ) → nodeName bs ≡ true → length bs ≤ 255
 unfolding nodeName
 node-short bs e =
     let a = leb 1 (length bs) in
