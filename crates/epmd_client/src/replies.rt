@@ -72,7 +72,11 @@ pub fn read_alive2(reply: &[u8]) -> Alive2Reply
         if n != SHORT {
             return Alive2Reply::Refused(Unreadable::WrongLength);
         }
-        return alive2_told(tag, wire::get8(reply, RESULT), wire::get16(reply, CREATION) as u32);
+        return alive2_told(
+            tag,
+            wire::get8(reply, RESULT),
+            wire::get16(reply, CREATION) as u32,
+        );
     }
     Alive2Reply::Refused(Unreadable::WrongTag)
 }

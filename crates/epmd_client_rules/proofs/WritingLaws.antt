@@ -17,7 +17,7 @@ use Rattle.epmd_rules.specs.declared.refusal.Refusal.{Refusal}
 use Rattle.epmd_rules.specs.declared.refusal.Refusal.the-variants.{OutputTooShort}
 use Rattle.epmd_rules.specs.declared.answer.Answer.{Answer}
 use Rattle.epmd_rules.specs.declared.answer.Answer.the-variants.{Written, Refused}
-use Rattle.epmd_rules.specs.Messages.{alive2Req, portPlease2Req}
+use Rattle.epmd_rules.specs.Messages.{alive2Req, portPlease2Req, namesReq}
 use Rattle.epmd_rules.specs.Requests.{Check, _else_, firstRefusal, alive2Rules, portPlease2Rules}
 use Rattle.epmd_rules.proofs.RequestLaws.{node-short}
 use Rattle.epmd_client_rules.specs.Requests.{Writing, Writes, refused, writing, alive2Frame, portPlease2Frame, namesFrame, alive2Writing, portPlease2Writing, namesWriting}
@@ -41,13 +41,13 @@ module _ (rules : List (Check Refusal)) (frame : List ℕ) (size given : ℕ) (e
   writes : (out out' : List ℕ) → out' ≡ written (doing frame a .bytes) out → Writes (writing rules frame given) a out out'
   writes out out' o =
       let w : writing rules frame given ≡ doing frame a =
-          by-answer (rules ++ ((leb (length frame) given else OutputTooShort) ∷ [])) (length frame) frame
-          ∙ ap (λ (k : ℕ). doing frame (decided rules k given)) e
-          ∙ ap (doing frame) (sym d) in
+      by-answer (rules ++ ((leb (length frame) given else OutputTooShort) ∷ [])) (length frame) frame
+      ∙ ap (λ (k : ℕ). doing frame (decided rules k given)) e
+      ∙ ap (doing frame) (sym d) in
       rw w (record { answer = own a; output = o }) where
-    own : (x : Answer) → x ≡ doing frame x .answer
-    own (Written n) = refl
-    own (Refused why) = refl
+        own : (x : Answer) → x ≡ doing frame x .answer
+        own (Written n) = refl
+        own (Refused why) = refl
 
   pub writes-none : (why : Refusal) (out : List ℕ) → a ≡ Refused why → Writes (writing rules frame given) a out out
   writes-none why out r = writes out out (rw r (sym (written-none out)))
@@ -122,3 +122,10 @@ portPlease2-size name = ap length (sym (portPlease2-split name)) ∙ omega arith
 
 pub names-held : (given m : ℕ) → decided [] 3 given ≡ Written m → 3 ≤ given
 names-held given m e = leb-true 3 given (held [] 3 given m e .0 .0)
+
+pub names-head : be 2 1 ++ encode namesReq (int 110 ∷ []) ≡ namesFrame
+unfolding namesFrame framed
+names-head = refl
+
+pub names-size : length namesFrame ≡ 3
+names-size = ap length (sym names-head)
