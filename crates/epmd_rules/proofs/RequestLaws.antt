@@ -37,7 +37,7 @@ module _ (b : List ℕ) (tag : beAt 1 0 b ≡ 120) where
   alive2-length h = rw (tag, ne-eqb (length b) (extent alive2Req b) h)
 
   module _ (whole : length b ≡ extent alive2Req b) where
-    extra-length : length (runAt alive2Req 7 b) ≡ elen b
+    pub extra-length : length (runAt alive2Req 7 b) ≡ elen b
     extra-length = part-length (11 + nlen b + 2) (elen b) b (omega arith)
 
     pub alive2-extra : 128 < elen b → examineBody b ≡ Refused BadLength
@@ -173,7 +173,7 @@ node-some bs e =
     let c = a && b && utf8 bs in
     leb-true 1 (length bs) (and-left a b (and-left (a && b) (utf8 bs) (and-left c (lacks 0 bs) (and-left (c && lacks 0 bs) (lacks 64 bs) e))))
 
-node-short : (bs : List ℕ) → nodeName bs ≡ true → length bs ≤ 255
+pub node-short : (bs : List ℕ) → nodeName bs ≡ true → length bs ≤ 255
 unfolding nodeName
 node-short bs e =
     let a = leb 1 (length bs) in
