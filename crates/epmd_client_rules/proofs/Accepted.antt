@@ -15,6 +15,7 @@ use Rattle.wire.proofs.FrameLaws.{frame-of, framed-length}
 use Rattle.wire.proofs.LayoutLaws.{layout-back}
 use Rattle.names.specs.Held.{nameOf}
 use Rattle.names.specs.Node.{nodeName}
+use Rattle.names.proofs.NodeLaws.{name-short}
 use Rattle.epmd_rules.specs.declared.refusal.Refusal.{Refusal}
 use Rattle.epmd_rules.specs.declared.refusal.Refusal.the-variants.{OutputTooShort, BadLength, BadName, BadVersions}
 use Rattle.epmd_rules.specs.declared.answer.Answer.{Answer}
@@ -24,7 +25,7 @@ use Rattle.epmd_rules.specs.Messages.{alive2Req}
 use Rattle.epmd_rules.specs.Registration.{extraOf}
 use Rattle.epmd_rules.specs.Requests.{room, Check, _else_, firstRefusal, extraOk, versionsOk, examineBody, examineOf}
 use Rattle.epmd_rules.specs.Serve.{registrationOf}
-use Rattle.epmd_rules.proofs.RequestLaws.{framed-body, extra-length, node-short, alive2-asked, port2-asked, names-asked}
+use Rattle.epmd_rules.proofs.RequestLaws.{framed-body, extra-length, alive2-asked, port2-asked, names-asked}
 use Rattle.epmd_client_rules.specs.Requests.{Writing, refused, writing, alive2Body, alive2Frame, portPlease2Frame, namesFrame, alive2Writing, portPlease2Writing, namesWriting}
 use Rattle.epmd_client_rules.specs.Claims.{Fit, Alive2Taken, PortPlease2Taken, RequestAccepted}
 use Rattle.epmd_client_rules.proofs.Exactly.{alive2-length, port-please2-length, names-length}
@@ -121,7 +122,7 @@ module _ (port kind protocol highest lowest : ℕ) (name extra : List ℕ) where
       let p6 = passed (nodeName name) BadName c7 w (p5 .1) in
       let p7 = passed (versionsOk highest lowest) BadVersions c1 w (p6 .1) in
       subst (λ (x : Writing). Alive2Taken (x .bytes) port kind protocol highest lowest name extra) (sym (wrote ((extraOk extra else BadLength) ∷ c6) w h))
-      (taken f (p6 .0) (node-short name (p6 .0)) (leb-true (length extra) 128 (p5 .0)) (p7 .0))
+      (taken f (p6 .0) (name-short name (p6 .0)) (leb-true (length extra) 128 (p5 .0)) (p7 .0))
 
 -- ---- PORT_PLEASE2_REQ and NAMES_REQ
 
@@ -129,7 +130,7 @@ module _ (name : List ℕ) where
   question-taken : nodeName name ≡ true → PortPlease2Taken (portPlease2Frame name) name
   unfolding portPlease2Frame beAt part body
   question-taken n =
-      let o = frame-of (122 ∷ name) (omega arith) (omega (arith, node-short name n)) in
+      let o = frame-of (122 ∷ name) (omega arith) (omega (arith, name-short name n)) in
       record { asked = λ given h. framed-body (framed (122 ∷ name)) given h (o .0) ∙ ap examineBody (o .1) ∙ port2-asked (122 ∷ name) refl n; sought = ap (drop 1) (o .1) }
 
   question-accepted : (given count : ℕ) → portPlease2Writing name given .answer ≡ Written count → PortPlease2Taken (portPlease2Writing name given .bytes) name
