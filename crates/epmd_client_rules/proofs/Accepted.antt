@@ -1,8 +1,8 @@
 -- What a writer wrote is taken by the mapper's own examination (specs/Claims). Assumes nothing.
-use Prim.Native.Nat.{ℕ, _+_, _≤_, _<_}
+use Prim.Native.Nat.{ℕ, _≤_}
 use mathlib.Core.Path.{_≡_, refl, sym, ap, ap₂, subst, _∙_}
-use mathlib.Core.Bool.{Bool, true, false, cond}
-use mathlib.Core.List.{List, [], _∷_, _++_, append-nil}
+use mathlib.Core.Bool.{Bool, true, false}
+use mathlib.Core.List.{List, [], _∷_, append-nil}
 use native.Mathlib.Omega.{arith}
 use borrow.Author.Tests.{leb-true}
 use lib.ListN.{length, getD, drop}
@@ -10,7 +10,7 @@ use lib.Dec.{leb}
 use Rattle.wire.specs.Run.{part}
 use Rattle.wire.specs.Frame.{framed, body}
 use Rattle.wire.specs.Number.{beAt}
-use Rattle.wire.specs.Layout.{Value, int, run, Fits, encode, decode, extent, intOf, runOf, intAt, runAt}
+use Rattle.wire.specs.Layout.{Value, int, run, Fits, decode, extent, intOf, runOf, intAt, runAt}
 use Rattle.wire.proofs.FrameLaws.{frame-of, framed-length}
 use Rattle.wire.proofs.LayoutLaws.{layout-back}
 use Rattle.names.specs.Held.{nameOf}
@@ -20,15 +20,15 @@ use Rattle.epmd_rules.specs.declared.refusal.Refusal.{Refusal}
 use Rattle.epmd_rules.specs.declared.refusal.Refusal.the-variants.{OutputTooShort, BadLength, BadName, BadVersions}
 use Rattle.epmd_rules.specs.declared.answer.Answer.{Answer}
 use Rattle.epmd_rules.specs.declared.answer.Answer.the-variants.{Written, Refused}
-use Rattle.epmd_rules.specs.declared.request.Request.the-variants.{Alive2, PortPlease2, Names}
+use Rattle.epmd_rules.specs.declared.request.Request.the-variants.{Alive2, Names}
 use Rattle.epmd_rules.specs.Messages.{alive2Req}
 use Rattle.epmd_rules.specs.Registration.{extraOf}
 use Rattle.epmd_rules.specs.Requests.{room, Check, _else_, firstRefusal, extraOk, versionsOk, examineBody, examineOf}
 use Rattle.epmd_rules.specs.Serve.{registrationOf}
 use Rattle.epmd_rules.proofs.RequestLaws.{framed-body, extra-length, alive2-asked, port2-asked, names-asked}
-use Rattle.epmd_client_rules.specs.Requests.{Writing, refused, writing, alive2Body, alive2Frame, portPlease2Frame, namesFrame, alive2Writing, portPlease2Writing, namesWriting}
+use Rattle.epmd_client_rules.specs.Requests.{Writing, refused, alive2Body, alive2Frame, portPlease2Frame, namesFrame, alive2Writing, portPlease2Writing, namesWriting}
 use Rattle.epmd_client_rules.specs.Claims.{Fit, Alive2Taken, PortPlease2Taken, RequestAccepted}
-use Rattle.epmd_client_rules.proofs.Exactly.{alive2-length, port-please2-length, names-length}
+use Rattle.epmd_client_rules.proofs.Exactly.{alive2-length}
 
 -- ---- a writer that wrote: every test held, and it wrote the frame
 

@@ -1,40 +1,30 @@
--- Reading what the mapper wrote gives back what it carries (specs/Claims). Assumes nothing.
-use Prim.Native.Nat.{ℕ, suc, _+_, _%_, _≤_, _<_}
-use mathlib.Core.Path.{_≡_, refl, sym, ap, ap₂, subst, _∙_}
-use mathlib.Core.Logic.{_⊎_, inl, inr}
+-- Replies read as they were written: 118, 121 and 119 by their fields. Assumes nothing.
+use Prim.Native.Nat.{ℕ, _+_, _≤_, _<_}
+use mathlib.Core.Path.{_≡_, refl, sym, ap, ap₂, _∙_}
 use mathlib.Core.Bool.{Bool, true, false, cond}
-use mathlib.Core.List.{List, [], _∷_, _++_, append-nil}
+use mathlib.Core.List.{List, [], _∷_, append-nil}
 use native.Mathlib.Omega.{arith}
-use borrow.Author.Tests.{eq-eqb, ne-eqb, lt-ltb, le-ltb, le-leb, ltb-true, eqb-true, eqb-false}
-use lib.ListN.{length, getD, drop}
-use lib.Dec.{eqb, leb, ltb}
+use borrow.Author.Tests.{eq-eqb, ne-eqb, le-leb, eqb-true, eqb-false}
+use lib.ListN.{length, getD}
+use lib.Dec.{eqb, leb}
 use Rattle.wire.specs.Run.{part}
-use Rattle.wire.specs.Frame.{body}
-use Rattle.wire.specs.Number.{be, beAt}
-use Rattle.wire.specs.Layout.{Layout, Value, int, run, Fits, encode, decode, extent, behind, intOf, runOf, intAt, runAt}
+use Rattle.wire.specs.Number.{beAt}
+use Rattle.wire.specs.Layout.{Layout, Value, int, run, Fits, encode, decode, extent, intOf, runOf, intAt, runAt}
 use Rattle.wire.proofs.LayoutLaws.{layout-back}
 use Rattle.wire.proofs.RunLaws.{part-length}
 use Rattle.names.specs.Held.{nameBytes}
 use Rattle.epmd_rules.specs.declared.registration.Registration.{Registration}
-use Rattle.epmd_rules.specs.declared.request.Request.the-variants.{Alive2, PortPlease2, Names}
-use Rattle.epmd_rules.specs.State.{Registry}
-use Rattle.epmd_rules.specs.Messages.{alive2Req, alive2XResp, alive2Resp, portPlease2Req, port2Resp}
-use Rattle.epmd_rules.specs.Registration.{isFree, extraBytes}
-use Rattle.epmd_rules.specs.Registry.{byName, entryAt}
-use Rattle.epmd_rules.specs.Requests.{_else_, firstRefusal, room, tag, examineOf}
-use Rattle.epmd_rules.specs.Replies.{shortCreation, creationField, alive2Reply, port2With, port2Found, port2Missing, port2Reply, lineWith, nameLine, lineOf, nameLines, namesReply}
-use Rattle.epmd_rules.specs.Serve.{resultOf, registrationOf, alive2Of, port2Of, namesOf, requestOf}
-use Rattle.epmd_rules.specs.Claims.{Reachable, NumbersHeld}
-use Rattle.epmd_rules.proofs.ServeLaws.{call-asked}
-use Rattle.epmd_rules.proofs.Reachable.{always-sound}
-use Rattle.epmd_client_rules.specs.declared.unreadable.Unreadable.the-variants.{WrongTag, WrongLength, Ambiguous}
-use Rattle.epmd_client_rules.specs.declared.reply.Alive2Reply.{Alive2Reply}
+use Rattle.epmd_rules.specs.Messages.{alive2XResp, alive2Resp, port2Resp}
+use Rattle.epmd_rules.specs.Registration.{extraBytes}
+use Rattle.epmd_rules.specs.Requests.{_else_, firstRefusal, tag}
+use Rattle.epmd_rules.specs.Replies.{shortCreation, creationField, alive2Reply, port2With, port2Found, port2Missing}
+use Rattle.epmd_rules.specs.Claims.{NumbersHeld}
+use Rattle.epmd_client_rules.specs.declared.unreadable.Unreadable.the-variants.{WrongTag, WrongLength}
 use Rattle.epmd_client_rules.specs.declared.reply.Alive2Reply.the-variants as alive2
 use Rattle.epmd_client_rules.specs.declared.reply.Port2.{Port2}
-use Rattle.epmd_client_rules.specs.declared.reply.Port2Reply.{Port2Reply}
 use Rattle.epmd_client_rules.specs.declared.reply.Port2Reply.the-variants as port2
 use Rattle.epmd_client_rules.specs.Replies.{resultIn, nameIn, extraIn, fieldsIn, port2Long, alive2Read, port2Read}
-use Rattle.epmd_client_rules.specs.Claims.{toldOf, alive2Told, port2Told, Port2Back, linesIn, readingOf, ReplyRead, AskedAndRead, PartsLie}
+use Rattle.epmd_client_rules.specs.Claims.{toldOf, alive2Told, port2Told, Port2Back, PartsLie}
 
 -- ---- the fields of a whole message
 
@@ -122,11 +112,12 @@ pub parts-lie : PartsLie
 parts-lie b p e =
     let w = found-whole b p e in
     let name : length (nameIn b) ≡ beAt 2 10 b = part-length 12 (beAt 2 10 b) b (omega (arith, w .0)) in
-    let extra : length (extraIn b) ≡ beAt 2 (12 + beAt 2 10 b) b = part-length (12 + beAt 2 10 b + 2) (beAt 2 (12 + beAt 2 10 b) b) b (omega (arith, w .0)) in
-    (ap (λ (q : Port2). part (q .name .at) (q .name .len) b) (w .1) ∙ ap (λ (n : ℕ). part 12 n b) name, 
-    ap (λ (q : Port2). part (q .extra .at) (q .extra .len) b) (w .1) ∙ ap₂ (λ (n m : ℕ). part (12 + n + 2) m b) name extra)
+    let extra : length (extraIn b) ≡ beAt 2 (12 + beAt 2 10 b) b = part-length (12 + beAt 2 10 b + 2) (beAt 2 (12 + beAt 2 10 b) b) b (omega (arith, w .0)) in (
+      ap (λ (q : Port2). part (q .name .at) (q .name .len) b) (w .1) ∙ ap (λ (n : ℕ). part 12 n b) name,
+      ap (λ (q : Port2). part (q .extra .at) (q .extra .len) b) (w .1) ∙ ap₂ (λ (n m : ℕ). part (12 + n + 2) m b) name extra,
+    )
 
-missing-read : port2Read port2Missing ≡ port2.Failed 1
+pub missing-read : port2Read port2Missing ≡ port2.Failed 1
 unfolding port2Read beAt part
 missing-read = refl
 
@@ -162,27 +153,32 @@ module _ (port kind protocol highest lowest : ℕ) (name extra : List ℕ) where
         let at : 12 + length name + 2 ≡ 14 + length name = omega arith in
         port2-found bytes (is 0) (is 1) (sym (size-back port2Resp values f))
         ∙ ap port2.Found (λ i.
-            record {
-              port = is 2 i;
-              kind = is 3 i;
-              protocol = is 4 i;
-              highest = is 5 i;
-              lowest = is 6 i;
-              name = record { at = 12; len = length (n i) };
-              extra = record { at = (ap (λ (l : List ℕ). 12 + length l + 2) n ∙ at) i; len = length (x i) };
-            })
+        record {
+          port = is 2 i;
+          kind = is 3 i;
+          protocol = is 4 i;
+          highest = is 5 i;
+          lowest = is 6 i;
+          name = record { at = 12; len = length (n i) };
+          extra = record { at = (ap (λ (l : List ℕ). 12 + length l + 2) n ∙ at) i; len = length (x i) };
+        })
 
 -- the registration that is found, and its reply
-registered-back : (p : Registration) → NumbersHeld p → length (nameBytes (p .name)) ≤ 255 → length (extraBytes (p .extra)) ≤ 128 → Port2Back (port2Found p) 0 p
+pub registered-back : (p : Registration) → NumbersHeld p → length (nameBytes (p .name)) ≤ 255 → length (extraBytes (p .extra)) ≤ 128 → Port2Back (port2Found p) 0 p
 unfolding port2Found
 registered-back p h n e =
     let name : List ℕ = nameBytes (p .name) in
     let extra : List ℕ = extraBytes (p .extra) in
-    let f : Fits port2Resp (values (p .port) (p .kind) (p .protocol) (p .highest) (p .lowest) name extra) =
-    (omega arith,
-    (omega arith,
-    (omega (arith, h .port),
-    (omega (arith, h .kind), (omega (arith, h .protocol), (omega (arith, h .highest), (omega (arith, h .lowest), (omega arith, (omega arith, tt)))))))))
+    let f : Fits port2Resp (values (p .port) (p .kind) (p .protocol) (p .highest) (p .lowest) name extra) = (
+      omega arith,
+      (
+        omega arith,
+        (
+          omega (arith, h .port),
+          (omega (arith, h .kind), (omega (arith, h .protocol), (omega (arith, h .highest), (omega (arith, h .lowest), (omega arith, (omega arith, tt)))))),
+        ),
+      ),
+    )
     in
     let read = found-read (p .port) (p .kind) (p .protocol) (p .highest) (p .lowest) name extra f in
     let lie = parts-lie (port2Found p) (port2Told p) read in

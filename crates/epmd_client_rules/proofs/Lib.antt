@@ -1,3 +1,5 @@
 pub mod Exactly
 pub mod Accepted
 pub mod Back
+pub mod Called
+pub mod Promises

@@ -2,25 +2,24 @@
 use Prim.Native.Nat.{ℕ, _+_, _≤_, _<_}
 use mathlib.Core.Path.{_≡_}
 use mathlib.Core.Logic.{_⊎_}
-use mathlib.Core.Bool.{Bool, true, false, cond, _&&_, _||_, not}
+use mathlib.Core.Bool.{Bool, false, cond, _&&_, _||_, not}
 use mathlib.Core.List.{List, [], _∷_}
 use lib.ListN.{length}
 use lib.Dec.{eqb, leb, ltb}
 use Rattle.wire.specs.Run.{part}
 use Rattle.wire.specs.Frame.{body}
-use Rattle.wire.specs.Layout.{behind, intAt, runAt, width}
+use Rattle.wire.specs.Layout.{behind, intAt, runAt}
 use Rattle.wire.specs.Number.{beAt}
 use Rattle.names.specs.Held.{nameOf, nameBytes}
 use Rattle.names.specs.Node.{nodeName}
-use Rattle.epmd_rules.specs.declared.answer.Answer.{Answer}
 use Rattle.epmd_rules.specs.declared.answer.Answer.the-variants.{Written}
 use Rattle.epmd_rules.specs.declared.registration.Registration.{Registration}
 use Rattle.epmd_rules.specs.declared.request.Request.the-variants.{Alive2, PortPlease2, Names}
 use Rattle.epmd_rules.specs.State.{Registry}
-use Rattle.epmd_rules.specs.Messages.{alive2Req, portPlease2Req, port2Head}
+use Rattle.epmd_rules.specs.Messages.{alive2Req, portPlease2Req}
 use Rattle.epmd_rules.specs.Registration.{isFree, extraOf, extraBytes}
 use Rattle.epmd_rules.specs.Registry.{byName, entryAt}
-use Rattle.epmd_rules.specs.Requests.{room, tag, extraOk, versionsOk, examineOf}
+use Rattle.epmd_rules.specs.Requests.{room, tag, versionsOk, examineOf}
 use Rattle.epmd_rules.specs.Replies.{shortCreation}
 use Rattle.epmd_rules.specs.Serve.{resultOf, registrationOf, requestOf}
 use Rattle.epmd_rules.specs.Answers.{numbersOf}
@@ -32,7 +31,7 @@ use Rattle.epmd_client_rules.specs.declared.reply.Port2.{Port2}
 use Rattle.epmd_client_rules.specs.declared.reply.Port2Reply.the-variants as port2
 use Rattle.epmd_client_rules.specs.declared.reply.NamesReply.{NamesReply}
 use Rattle.epmd_client_rules.specs.Requests.{Writing, alive2Writing, portPlease2Writing, namesWriting}
-use Rattle.epmd_client_rules.specs.Replies.{resultIn, isAlive2Reply, nameIn, extraIn, alive2Read, port2Read}
+use Rattle.epmd_client_rules.specs.Replies.{resultIn, nameIn, extraIn, alive2Read, port2Read}
 use Rattle.epmd_client_rules.specs.Readings.{Line, Reading, listed, notListed, Tells}
 use Rattle.epmd_client_rules.specs.Answers.{alive2Numbers, port2Numbers}
 
@@ -113,7 +112,7 @@ linesIn (p ∷ ps) = cond (isFree p) (linesIn ps) (record { name = nameBytes (p 
 abbrev pub readingOf : Registry → Reading
 readingOf r = record { own = r .port; lines = linesIn (r .registrations) }
 
--- over the call: whatever the mapper wrote, in a registry that calls can give (Back.reply-read)
+-- over the call: whatever the mapper wrote, in a registry that calls can give (Called.reply-read)
 pub record ReplyRead : Type 0 where
   pub alive2 : (r : Registry) (c : ℕ) (frame : List ℕ) (given : ℕ) → Reachable r → examineOf frame given ≡ Alive2
       → alive2Read (requestOf r c frame given .bytes)
@@ -124,7 +123,7 @@ pub record ReplyRead : Type 0 where
       → Tells (requestOf r c frame given .bytes) told
       → (told ≡ listed (readingOf r)) ⊎ (told ≡ notListed Ambiguous)
 
--- both ends: a node that asks for a name that is registered reads its registration (Back.asked-and-read)
+-- both ends: a node that asks for a name that is registered reads its registration (Called.asked-and-read)
 abbrev pub AskedAndRead : Type 0
 AskedAndRead =
     (r : Registry) (c i given given′ count : ℕ) → Reachable r → i < 64 → isFree (entryAt r i) ≡ false → room ≤ given′
