@@ -2,7 +2,7 @@
 use Prim.Native.Nat.{ℕ, _≤_}
 use mathlib.Core.Path.{_≡_, refl, sym, ap, ap₂, subst, _∙_}
 use mathlib.Core.Bool.{Bool, true, false}
-use mathlib.Core.List.{List, [], _∷_, append-nil}
+use mathlib.Core.List.{List, [], _∷_}
 use native.Mathlib.Omega.{arith}
 use borrow.Author.Tests.{leb-true}
 use lib.ListN.{length, getD, drop}
@@ -10,9 +10,9 @@ use lib.Dec.{leb}
 use Rattle.wire.specs.Run.{part}
 use Rattle.wire.specs.Frame.{framed, body}
 use Rattle.wire.specs.Number.{beAt}
-use Rattle.wire.specs.Layout.{Value, int, run, Fits, decode, extent, intOf, runOf, intAt, runAt}
+use Rattle.wire.specs.Layout.{Value, int, run, Fits, extent, intOf, runOf, intAt, runAt}
 use Rattle.wire.proofs.FrameLaws.{frame-of, framed-length}
-use Rattle.wire.proofs.LayoutLaws.{layout-back}
+use Rattle.wire.proofs.LayoutLaws.{extent-back, int-back, run-back}
 use Rattle.names.specs.Held.{nameOf}
 use Rattle.names.specs.Node.{nodeName}
 use Rattle.names.proofs.NodeLaws.{name-short}
@@ -67,17 +67,14 @@ module _ (port kind protocol highest lowest : ℕ) (name extra : List ℕ) where
       ),
     )
 
-    decoded : decode alive2Req bytes ≡ values
-    decoded = ap (decode alive2Req) (sym (append-nil bytes)) ∙ layout-back alive2Req values [] fits .fields
-
     whole : length bytes ≡ extent alive2Req bytes
-    whole = sym (ap (extent alive2Req) (sym (append-nil bytes)) ∙ layout-back alive2Req values [] fits .taken)
+    whole = sym (extent-back alive2Req values fits)
 
     int-at : (k : ℕ) → intAt alive2Req k bytes ≡ intOf (getD values k (int 0))
-    int-at k = ap (λ (vs : List Value). intOf (getD vs k (int 0))) decoded
+    int-at = int-back alive2Req values fits
 
     run-at : (k : ℕ) → runAt alive2Req k bytes ≡ runOf (getD values k (int 0))
-    run-at k = ap (λ (vs : List Value). runOf (getD vs k (int 0))) decoded
+    run-at = run-back alive2Req values fits
 
     asked : examineBody bytes ≡ Alive2
     asked =

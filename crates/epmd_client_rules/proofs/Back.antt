@@ -2,15 +2,15 @@
 use Prim.Native.Nat.{ℕ, _+_, _≤_, _<_}
 use mathlib.Core.Path.{_≡_, refl, sym, ap, ap₂, _∙_}
 use mathlib.Core.Bool.{Bool, true, false, cond}
-use mathlib.Core.List.{List, [], _∷_, append-nil}
+use mathlib.Core.List.{List, [], _∷_}
 use native.Mathlib.Omega.{arith}
 use borrow.Author.Tests.{eq-eqb, ne-eqb, le-leb, eqb-true, eqb-false}
-use lib.ListN.{length, getD}
+use lib.ListN.{length}
 use lib.Dec.{eqb, leb}
 use Rattle.wire.specs.Run.{part}
 use Rattle.wire.specs.Number.{beAt}
-use Rattle.wire.specs.Layout.{Layout, Value, int, run, Fits, encode, decode, extent, intOf, runOf, intAt, runAt}
-use Rattle.wire.proofs.LayoutLaws.{layout-back}
+use Rattle.wire.specs.Layout.{Value, int, run, Fits, encode, extent}
+use Rattle.wire.proofs.LayoutLaws.{extent-back, int-back, run-back}
 use Rattle.wire.proofs.RunLaws.{part-length}
 use Rattle.names.specs.Held.{nameBytes}
 use Rattle.epmd_rules.specs.declared.registration.Registration.{Registration}
@@ -25,21 +25,6 @@ use Rattle.epmd_client_rules.specs.declared.reply.Port2.{Port2}
 use Rattle.epmd_client_rules.specs.declared.reply.Port2Reply.the-variants as port2
 use Rattle.epmd_client_rules.specs.Replies.{resultIn, nameIn, extraIn, fieldsIn, port2Long, alive2Read, port2Read}
 use Rattle.epmd_client_rules.specs.Claims.{toldOf, alive2Told, port2Told, Port2Back, PartsLie}
-
--- ---- the fields of a whole message
-
-module _ (fs : Layout) (vs : List Value) (f : Fits fs vs) where
-  pub fields-back : decode fs (encode fs vs) ≡ vs
-  fields-back = ap (decode fs) (sym (append-nil (encode fs vs))) ∙ layout-back fs vs [] f .fields
-
-  pub size-back : extent fs (encode fs vs) ≡ length (encode fs vs)
-  size-back = ap (extent fs) (sym (append-nil (encode fs vs))) ∙ layout-back fs vs [] f .taken
-
-  pub int-back : (k : ℕ) → intAt fs k (encode fs vs) ≡ intOf (getD vs k (int 0))
-  int-back k = ap (λ (us : List Value). intOf (getD us k (int 0))) fields-back
-
-  pub run-back : (k : ℕ) → runAt fs k (encode fs vs) ≡ runOf (getD vs k (int 0))
-  run-back k = ap (λ (us : List Value). runOf (getD us k (int 0))) fields-back
 
 -- ---- 118 and 121
 
@@ -151,7 +136,7 @@ module _ (port kind protocol highest lowest : ℕ) (name extra : List ℕ) where
         let n = name-back in
         let x = extra-back in
         let at : 12 + length name + 2 ≡ 14 + length name = omega arith in
-        port2-found bytes (is 0) (is 1) (sym (size-back port2Resp values f))
+        port2-found bytes (is 0) (is 1) (sym (extent-back port2Resp values f))
         ∙ ap port2.Found (λ i.
         record {
           port = is 2 i;
