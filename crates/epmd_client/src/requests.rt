@@ -120,6 +120,23 @@ fn put_alive2(
     put_run(out, at, extra);
 }
 
+fn put_port_please2(name: &[u8], out: &mut [u8])
+    requires { ⌜ (3 + length (now name) ≤ length (now out)) × (length (now name) ≤ 255) ⌝ }
+    ensures { λ _. ⌜ now (out .exit) ≡ written (portPlease2Frame (now (name .entry))) (now (out .entry)) ⌝ }
+{
+    let head = frame_head((1 + name.len()) as u16, 122);
+    wire::put_bytes(out, 0, &head);
+    wire::put_bytes(out, BEHIND, name);
+}
+
+fn put_names(out: &mut [u8])
+    requires { ⌜ 3 ≤ length (now out) ⌝ }
+    ensures { λ _. ⌜ now (out .exit) ≡ written namesFrame (now (out .entry)) ⌝ }
+{
+    let head = frame_head(1, 110);
+    wire::put_bytes(out, 0, &head);
+}
+
 // Writes ALIVE2_REQ, and tells the count written.
 pub fn alive2_request(
     port: u16,
@@ -149,9 +166,7 @@ pub fn port_please2_request(name: &[u8], out: &mut [u8]) -> Answer
     let Answer::Written(count) = answer else {
         return answer;
     };
-    let head = frame_head((count - TAG) as u16, 122);
-    wire::put_bytes(out, 0, &head);
-    wire::put_bytes(out, BEHIND, name);
+    put_port_please2(name, out);
     Answer::Written(count)
 }
 
@@ -163,7 +178,6 @@ pub fn names_request(out: &mut [u8]) -> Answer
     let Answer::Written(count) = answer else {
         return answer;
     };
-    let head = frame_head(1, 110);
-    wire::put_bytes(out, 0, &head);
+    put_names(out);
     Answer::Written(count)
 }

@@ -1,2 +1,7 @@
+pub mod Exactly
+pub mod Accepted
+pub mod Back
+pub mod Called
+pub mod Promises
 pub mod WritingLaws
 pub mod ReplyLaws

@@ -11,15 +11,15 @@ use Rattle.wire.specs.Number.{be}
 use Rattle.wire.specs.Frame.{framed}
 use Rattle.wire.specs.Layout.{number, counted, int, run, encodeField, encode}
 use Rattle.wire.specs.Output.{written}
-use Rattle.wire.proofs.FrameLaws.{framed-length, framed-split}
+use Rattle.wire.proofs.FrameLaws.{framed-split}
 use Rattle.wire.proofs.OutputLaws.{written-none}
+use Rattle.names.proofs.NodeLaws.{name-short}
 use Rattle.epmd_rules.specs.declared.refusal.Refusal.{Refusal}
 use Rattle.epmd_rules.specs.declared.refusal.Refusal.the-variants.{OutputTooShort}
 use Rattle.epmd_rules.specs.declared.answer.Answer.{Answer}
 use Rattle.epmd_rules.specs.declared.answer.Answer.the-variants.{Written, Refused}
 use Rattle.epmd_rules.specs.Messages.{alive2Req, portPlease2Req, namesReq}
 use Rattle.epmd_rules.specs.Requests.{Check, _else_, firstRefusal, alive2Rules, portPlease2Rules}
-use Rattle.epmd_rules.proofs.RequestLaws.{node-short}
 use Rattle.epmd_client_rules.specs.Requests.{Writing, Writes, refused, writing, alive2Frame, portPlease2Frame, namesFrame, alive2Writing, portPlease2Writing, namesWriting}
 use Rattle.epmd_client_rules.specs.Decision.{decided}
 
@@ -55,18 +55,17 @@ module _ (rules : List (Check Refusal)) (frame : List ℕ) (size given : ℕ) (e
   pub writes-frame : (n : ℕ) (out out' : List ℕ) → a ≡ Written n → out' ≡ written frame out → Writes (writing rules frame given) a out out'
   writes-frame n out out' r o = writes out out' (rw r o)
 
--- where a frame is written, every test held, and its size is told
+-- where a frame is written, every test held
 abbrev AllHold : List (Check Refusal) → Type 0
 AllHold [] = Unit
 AllHold ((holds else why) ∷ cs) = (holds ≡ true) × AllHold cs
 
-all-hold : (cs : List (Check Refusal)) (n m : ℕ) → firstRefusal Refused cs (Written n) ≡ Written m → AllHold cs × (m ≡ n)
-all-hold [] n m e = (tt, cc)
-all-hold ((true else why) ∷ cs) n m e = let p = all-hold cs n m e in ((refl, p .0), p .1)
+all-hold : (cs : List (Check Refusal)) (n m : ℕ) → firstRefusal Refused cs (Written n) ≡ Written m → AllHold cs
+all-hold [] n m e = tt
+all-hold ((true else why) ∷ cs) n m e = (refl, all-hold cs n m e)
 all-hold ((false else why) ∷ cs) n m e = let z : _≡_ {A = ℕ} 0 1 = cc in absurd (omega arith)
 
-held : (rules : List (Check Refusal)) (size given m : ℕ) → decided rules size given ≡ Written m
-    → AllHold (rules ++ ((leb size given else OutputTooShort) ∷ [])) × (m ≡ size)
+held : (rules : List (Check Refusal)) (size given m : ℕ) → decided rules size given ≡ Written m → AllHold (rules ++ ((leb size given else OutputTooShort) ∷ []))
 held rules size given m e = all-hold (rules ++ ((leb size given else OutputTooShort) ∷ [])) size m e
 
 -- ---- ALIVE2_REQ: the head, the name behind Nlen, the extra bytes behind Elen
@@ -78,8 +77,8 @@ module _ (highest lowest : ℕ) (name extra : List ℕ) where
   pub alive2-held : (given m : ℕ) → decided (alive2Rules highest lowest name extra) alive2Size given ≡ Written m
       → (alive2Size ≤ given) × (length name ≤ 255) × (length extra ≤ 128)
   alive2-held given m e =
-      let h = held (alive2Rules highest lowest name extra) alive2Size given m e .0 in
-      (leb-true alive2Size given (h .1 .1 .1 .0), node-short name (h .1 .0), leb-true (length extra) 128 (h .0))
+      let h = held (alive2Rules highest lowest name extra) alive2Size given m e in
+      (leb-true alive2Size given (h .1 .1 .1 .0), name-short name (h .1 .0), leb-true (length extra) 128 (h .0))
 
 module _ (port kind protocol highest lowest : ℕ) (name extra : List ℕ) where
   abbrev front : List ℕ
@@ -101,31 +100,21 @@ module _ (port kind protocol highest lowest : ℕ) (name extra : List ℕ) where
       ∙ framed-split front runs (13 + length name + length extra) (omega (arith, runs-length))
       ∙ ap (λ (l : List ℕ). framed (front ++ (encodeField (counted 2) (run name) ++ l))) (sym (append-nil (encodeField (counted 2) (run extra))))
 
-  pub alive2-size : length (alive2Frame port kind protocol highest lowest name extra) ≡ 15 + length name + length extra
-  alive2-size =
-      ap length (sym alive2-split) ∙ ap length (append-assoc alive2Head (encodeField (counted 2) (run name)) (encodeField (counted 2) (run extra))) ∙ omega (arith, runs-length)
-
 -- ---- PORT_PLEASE2_REQ and NAMES_REQ: a length and a tag, and the name
 
 pub portPlease2-held : (name : List ℕ) (given m : ℕ) → decided (portPlease2Rules name) (3 + length name) given ≡ Written m
-    → (3 + length name ≤ given) × (length name ≤ 255) × (m ≡ 3 + length name)
+    → (3 + length name ≤ given) × (length name ≤ 255)
 portPlease2-held name given m e =
     let h = held (portPlease2Rules name) (3 + length name) given m e in
-    (leb-true (3 + length name) given (h .0 .1 .0), node-short name (h .0 .0), h .1)
+    (leb-true (3 + length name) given (h .1 .0), name-short name (h .0))
 
 pub portPlease2-split : (name : List ℕ) → (be 2 (1 + length name) ++ encode portPlease2Req (int 122 ∷ [])) ++ name ≡ portPlease2Frame name
 unfolding portPlease2Frame
 portPlease2-split name = framed-split (encode portPlease2Req (int 122 ∷ [])) name (1 + length name) refl
 
-pub portPlease2-size : (name : List ℕ) → length (portPlease2Frame name) ≡ 3 + length name
-portPlease2-size name = ap length (sym (portPlease2-split name)) ∙ omega arith
-
 pub names-held : (given m : ℕ) → decided [] 3 given ≡ Written m → 3 ≤ given
-names-held given m e = leb-true 3 given (held [] 3 given m e .0 .0)
+names-held given m e = leb-true 3 given (held [] 3 given m e .0)
 
 pub names-head : be 2 1 ++ encode namesReq (int 110 ∷ []) ≡ namesFrame
 unfolding namesFrame framed
 names-head = refl
-
-pub names-size : length namesFrame ≡ 3
-names-size = ap length (sym names-head)

@@ -3,3 +3,4 @@ pub mod Decision
 pub mod Replies
 pub mod Readings
 pub mod Answers
+pub mod Claims

@@ -1,7 +1,7 @@
 -- What a body asks for, by the tests that code makes. Assumes nothing.
 use Prim.Native.Nat.{ℕ, _+_, _≤_, _<_}
 use mathlib.Core.Path.{_≡_, refl, sym, ap, _∙_}
-use mathlib.Core.Bool.{Bool, true, false, _&&_, _||_, not}
+use mathlib.Core.Bool.{Bool, true, false, _||_, not}
 use mathlib.Core.List.{List, [], _∷_}
 use native.Mathlib.Omega.{arith}
 use borrow.Author.Tests.{lt-leb, le-leb, leb-true, eq-eqb, ne-eqb, eqb-true}
@@ -10,10 +10,10 @@ use lib.Dec.{eqb, leb}
 use Rattle.wire.specs.Number.{beAt}
 use Rattle.wire.specs.Frame.{isFrame, body}
 use Rattle.wire.specs.Layout.{extent, behind, intAt, runAt}
-use Rattle.wire.proofs.RunLaws.{and-left, and-right, part-length}
+use Rattle.wire.proofs.RunLaws.{part-length}
 use Rattle.wire.proofs.FrameLaws.{frame-told}
-use Rattle.names.specs.Utf8.{utf8}
-use Rattle.names.specs.Node.{lacks, nodeName}
+use Rattle.names.specs.Node.{nodeName}
+use Rattle.names.proofs.NodeLaws.{name-some, name-short}
 use Rattle.epmd_rules.specs.declared.refusal.Refusal.{Refusal}
 use Rattle.epmd_rules.specs.declared.refusal.Refusal.the-variants.{OutputTooShort, NotAFrame, UnknownTag, BadLength, BadName, BadVersions, NotServed}
 use Rattle.epmd_rules.specs.declared.request.Request.{Request}
@@ -37,7 +37,7 @@ module _ (b : List ℕ) (tag : beAt 1 0 b ≡ 120) where
   alive2-length h = rw (tag, ne-eqb (length b) (extent alive2Req b) h)
 
   module _ (whole : length b ≡ extent alive2Req b) where
-    extra-length : length (runAt alive2Req 7 b) ≡ elen b
+    pub extra-length : length (runAt alive2Req 7 b) ≡ elen b
     extra-length = part-length (11 + nlen b + 2) (elen b) b (omega arith)
 
     pub alive2-extra : 128 < elen b → examineBody b ≡ Refused BadLength
@@ -165,22 +165,6 @@ tag-kind t q e = by (eqb t 120) refl (eqb t 122) refl where
       let k : Names ≡ q = sym (rw (f, g)) ∙ e in
       (λ h. let z : _≡_ {A = ℕ} 0 1 = cc in absurd (omega arith), λ h. let z : _≡_ {A = ℕ} 0 1 = cc in absurd (omega arith))
 
-node-some : (bs : List ℕ) → nodeName bs ≡ true → 1 ≤ length bs
-unfolding nodeName
-node-some bs e =
-    let a = leb 1 (length bs) in
-    let b = leb (length bs) 255 in
-    let c = a && b && utf8 bs in
-    leb-true 1 (length bs) (and-left a b (and-left (a && b) (utf8 bs) (and-left c (lacks 0 bs) (and-left (c && lacks 0 bs) (lacks 64 bs) e))))
-
-pub node-short : (bs : List ℕ) → nodeName bs ≡ true → length bs ≤ 255
-unfolding nodeName
-node-short bs e =
-    let a = leb 1 (length bs) in
-    let b = leb (length bs) 255 in
-    let c = a && b && utf8 bs in
-    leb-true (length bs) 255 (and-right a b (and-left (a && b) (utf8 bs) (and-left c (lacks 0 bs) (and-left (c && lacks 0 bs) (lacks 64 bs) e))))
-
 -- what is known at each request
 module _ (frame : List ℕ) (given : ℕ) (q : Request) (asked : isAsked q ≡ true) (e : examineOf frame given ≡ q) where
   pub request-passed : Passed frame given
@@ -217,7 +201,7 @@ alive2-named frame given e =
     passes (nodeName (runAt alive2Req 6 b)) BadName vs Alive2 (passes (extraOk (runAt alive2Req 7 b)) BadLength ((nodeName (runAt alive2Req 6 b) else BadName) ∷ vs) Alive2 (alive2-rules frame given e) .1) .0
 
 pub alive2-name-some : (frame : List ℕ) (given : ℕ) → examineOf frame given ≡ Alive2 → 1 ≤ length (runAt alive2Req 6 (body frame))
-alive2-name-some frame given e = node-some (runAt alive2Req 6 (body frame)) (alive2-named frame given e)
+alive2-name-some frame given e = name-some (runAt alive2Req 6 (body frame)) (alive2-named frame given e)
 
 pub alive2-body : (frame : List ℕ) (given : ℕ) → examineOf frame given ≡ Alive2 → Alive2Body (body frame)
 alive2-body frame given e =
@@ -226,6 +210,6 @@ alive2-body frame given e =
     let x : extraOk (runAt alive2Req 7 b) ≡ true = passes (extraOk (runAt alive2Req 7 b)) BadLength ((nodeName (runAt alive2Req 6 b) else BadName) ∷ (versionsOk (intAt alive2Req 4 b) (intAt alive2Req 5 b) else BadVersions) ∷ []) Alive2 (alive2-rules frame given e) .0 in
     record {
       whole = eqb-true (length b) (extent alive2Req b) l;
-      name = node-short (runAt alive2Req 6 b) (alive2-named frame given e);
+      name = name-short (runAt alive2Req 6 b) (alive2-named frame given e);
       extra = leb-true (length (runAt alive2Req 7 b)) 128 x;
     }
