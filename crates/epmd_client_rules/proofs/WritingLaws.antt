@@ -9,7 +9,7 @@ use lib.ListN.{length, take, length-append}
 use lib.Dec.{leb}
 use Rattle.wire.specs.Number.{be}
 use Rattle.wire.specs.Frame.{framed}
-use Rattle.wire.specs.Layout.{number, counted, int, run, encodeField, encode}
+use Rattle.wire.specs.Layout.{counted, int, run, encodeField, encode}
 use Rattle.wire.specs.Output.{written}
 use Rattle.wire.proofs.FrameLaws.{framed-split}
 use Rattle.wire.proofs.OutputLaws.{written-none}
@@ -20,7 +20,7 @@ use Rattle.epmd_rules.specs.declared.answer.Answer.{Answer}
 use Rattle.epmd_rules.specs.declared.answer.Answer.the-variants.{Written, Refused}
 use Rattle.epmd_rules.specs.Messages.{alive2Req, portPlease2Req, namesReq}
 use Rattle.epmd_rules.specs.Requests.{Check, _else_, firstRefusal, alive2Rules, portPlease2Rules}
-use Rattle.epmd_client_rules.specs.Requests.{Writing, Writes, refused, writing, alive2Frame, portPlease2Frame, namesFrame, alive2Writing, portPlease2Writing, namesWriting}
+use Rattle.epmd_client_rules.specs.Requests.{Writing, Writes, refused, writing, alive2Frame, portPlease2Frame, namesFrame}
 use Rattle.epmd_client_rules.specs.Decision.{decided}
 
 -- ---- decisions
