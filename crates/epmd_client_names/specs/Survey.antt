@@ -59,5 +59,4 @@ pub record Begun (s : List ℕ) (p : ℕ) (kinds few : List ℕ) : Type 0 where
 -- and its name may have n bytes
 pub record Through (s : List ℕ) (p n : ℕ) (kinds few : List ℕ) : Type 0 where
   pub begun : Begun s p kinds few
-  pub low : 1 ≤ n
   pub high : n ≤ 255
