@@ -5,7 +5,7 @@ use mathlib.Core.List.{List, [], _∷_, _++_, append-assoc}
 use mathlib.Core.Bool.{Bool, true, false}
 use mathlib.Core.Logic.{⊎-elim, _⊎_, inl, inr}
 use native.Mathlib.Omega.{arith}
-use lib.ListN.{length, take, drop, getD, set, length-append, length-drop, take-append-drop}
+use lib.ListN.{length, take, drop, getD, set, length-append, length-set, take-append-drop}
 use lib.Seq.{take-at, drop-drop, getD-set-same, getD-set-other, drop-length}
 use lib.Dec.{ltb, eqb}
 use borrow.Author.Tests.{ltb-true, ltb-false, eqb-true, eqb-false}
@@ -22,7 +22,7 @@ use Rattle.epmd_client_names.specs.declared.text.Tail.the-variants.{Miss
 use Rattle.epmd_client_names.specs.declared.tally.Tally.{Tally}
 use Rattle.epmd_client_names.specs.Text.{tailText, hasAt, tailAt}
 use Rattle.epmd_client_names.specs.Tallies.{Set, Means, joinOf}
-use Rattle.epmd_client_names.specs.Survey.{Lines, FirstIs, FirstBelow, Exact, Below, Tallied, Rows}
+use Rattle.epmd_client_names.specs.Survey.{Lines, FirstIs, FirstBelow, Exact, Below, Tallied, Rows, Room}
 use Rattle.epmd_client_names.proofs.TextLaws.{has-true, has-of}
 use Rattle.epmd_client_names.proofs.PortLaws.{TailHere, tail-length, tail-complete, tail-sound}
 use Rattle.epmd_client_names.proofs.TallyLaws.{same, Or, joined, join-lines, later}
@@ -182,6 +182,14 @@ at-end s = ([], (sym (drop-length s), tt), refl, only) where
   only (x ∷ xs) r =
       let u : (q : ℕ) × Stands s (length s) x q × Lines (drop q s) xs = uncons s (length s) x xs (omega arith) r in
       absurd (omega (arith, beyond s (length s) x (u .0) (u .1), u .1 .inside))
+
+pub room-set : (s : List ℕ) (p : ℕ) (kinds few : List ℕ) (kind k : ℕ) → Room s kinds few → Room s (set kinds p kind) (set few p k)
+room-set s p kinds few kind k r =
+    record {
+      fits = r .fits;
+      kindsLong = omega (arith, r .kindsLong, length-set kinds p kind);
+      fewLong = omega (arith, r .fewLong, length-set few p k);
+    }
 
 pub rows-set : (s : List ℕ) (p : ℕ) (kinds few : List ℕ) (kind k : ℕ) → p < length kinds → p < length few → Rows s (p + 1) kinds few
     → Tallied (Lines (drop p s)) s p kind k → Rows s p (set kinds p kind) (set few p k)
