@@ -1,3 +1,5 @@
+pub mod WritingLaws
+pub mod ReplyLaws
 pub mod Exactly
 pub mod Accepted
 pub mod Back

@@ -1,4 +1,5 @@
 pub mod Requests
+pub mod Decision
 pub mod Replies
 pub mod Readings
 pub mod Answers
