@@ -1,12 +1,11 @@
 -- What a writer wrote is taken by the mapper's own examination (specs/Claims). Assumes nothing.
 use Prim.Native.Nat.{ℕ, _≤_}
 use mathlib.Core.Path.{_≡_, refl, sym, ap, ap₂, subst, _∙_}
-use mathlib.Core.Bool.{Bool, true, false}
+use mathlib.Core.Bool.{true}
 use mathlib.Core.List.{List, [], _∷_}
 use native.Mathlib.Omega.{arith}
 use borrow.Author.Tests.{leb-true}
 use lib.ListN.{length, getD, drop}
-use lib.Dec.{leb}
 use Rattle.wire.specs.Run.{part}
 use Rattle.wire.specs.Frame.{framed, body}
 use Rattle.wire.specs.Number.{beAt}
@@ -16,34 +15,16 @@ use Rattle.wire.proofs.LayoutLaws.{extent-back, int-back, run-back}
 use Rattle.names.specs.Held.{nameOf}
 use Rattle.names.specs.Node.{nodeName}
 use Rattle.names.proofs.NodeLaws.{name-short}
-use Rattle.epmd_rules.specs.declared.refusal.Refusal.{Refusal}
-use Rattle.epmd_rules.specs.declared.refusal.Refusal.the-variants.{OutputTooShort, BadLength, BadName, BadVersions}
-use Rattle.epmd_rules.specs.declared.answer.Answer.{Answer}
-use Rattle.epmd_rules.specs.declared.answer.Answer.the-variants.{Written, Refused}
+use Rattle.epmd_rules.specs.declared.answer.Answer.the-variants.{Written}
 use Rattle.epmd_rules.specs.declared.request.Request.the-variants.{Alive2, Names}
 use Rattle.epmd_rules.specs.Messages.{alive2Req}
 use Rattle.epmd_rules.specs.Registration.{extraOf}
-use Rattle.epmd_rules.specs.Requests.{room, Check, _else_, firstRefusal, extraOk, versionsOk, examineBody, examineOf}
+use Rattle.epmd_rules.specs.Requests.{room, alive2Rules, portPlease2Rules, versionsOk, examineBody, examineOf}
 use Rattle.epmd_rules.specs.Serve.{registrationOf}
 use Rattle.epmd_rules.proofs.RequestLaws.{framed-body, extra-length, alive2-asked, port2-asked, names-asked}
-use Rattle.epmd_client_rules.specs.Requests.{Writing, refused, alive2Body, alive2Frame, portPlease2Frame, namesFrame, alive2Writing, portPlease2Writing, namesWriting}
+use Rattle.epmd_client_rules.specs.Requests.{alive2Body, alive2Frame, portPlease2Frame, namesFrame, alive2Writing, portPlease2Writing, namesWriting}
 use Rattle.epmd_client_rules.specs.Claims.{Fit, Alive2Taken, PortPlease2Taken, RequestAccepted}
-use Rattle.epmd_client_rules.proofs.Exactly.{alive2-length}
-
--- ---- a writer that wrote: every test held, and it wrote the frame
-
-abbrev hasWritten : Answer → Bool
-hasWritten (Written n) = true
-hasWritten (Refused n) = false
-
-passed : (h : Bool) (n : Refusal) (cs : List (Check Refusal)) (w : Writing) → hasWritten (firstRefusal refused ((h else n) ∷ cs) w .answer) ≡ true
-    → (h ≡ true) × (hasWritten (firstRefusal refused cs w .answer) ≡ true)
-passed true n cs w e = (refl, e)
-passed false n cs w e = let z : _≡_ {A = ℕ} 0 1 = cc in absurd (omega arith)
-
-wrote : (cs : List (Check Refusal)) (w : Writing) → hasWritten (firstRefusal refused cs w .answer) ≡ true → firstRefusal refused cs w ≡ w
-wrote [] w e = refl
-wrote ((h else n) ∷ cs) w e = let p = passed h n cs w e in rw (p .0) (wrote cs w (p .1))
+use Rattle.epmd_client_rules.proofs.WritingLaws.{alive2-size, wrote}
 
 -- ---- ALIVE2_REQ
 
@@ -86,7 +67,7 @@ module _ (port kind protocol highest lowest : ℕ) (name extra : List ℕ) where
     taken : Alive2Taken (alive2Frame port kind protocol highest lowest name extra) port kind protocol highest lowest name extra
     unfolding alive2Frame registrationOf
     taken =
-        let l = alive2-length port kind protocol highest lowest name extra in
+        let l = alive2-size port kind protocol highest lowest name extra in
         let o = frame-of bytes (omega (arith, framed-length bytes, l)) (omega (arith, framed-length bytes, l)) in
         record {
           asked = λ given h. framed-body (framed bytes) given h (o .0) ∙ ap examineBody (o .1) ∙ asked;
@@ -109,17 +90,10 @@ module _ (port kind protocol highest lowest : ℕ) (name extra : List ℕ) where
       → Alive2Taken (alive2Writing port kind protocol highest lowest name extra given .bytes) port kind protocol highest lowest name extra
   unfolding alive2Writing
   alive2-accepted given count f e =
-      let frame = alive2Frame port kind protocol highest lowest name extra in
-      let w : Writing = record { answer = Written (length frame); bytes = frame } in
-      let c1 : List (Check Refusal) = (leb (length frame) given else OutputTooShort) ∷ [] in
-      let c7 : List (Check Refusal) = (versionsOk highest lowest else BadVersions) ∷ c1 in
-      let c6 : List (Check Refusal) = (nodeName name else BadName) ∷ c7 in
-      let h = ap hasWritten e in
-      let p5 = passed (extraOk extra) BadLength c6 w h in
-      let p6 = passed (nodeName name) BadName c7 w (p5 .1) in
-      let p7 = passed (versionsOk highest lowest) BadVersions c1 w (p6 .1) in
-      subst (λ (x : Writing). Alive2Taken (x .bytes) port kind protocol highest lowest name extra) (sym (wrote ((extraOk extra else BadLength) ∷ c6) w h))
-      (taken f (p6 .0) (name-short name (p6 .0)) (leb-true (length extra) 128 (p5 .0)) (p7 .0))
+      let w = wrote (alive2Rules highest lowest name extra) (alive2Frame port kind protocol highest lowest name extra) given count e in
+      let h = w .0 in
+      subst (λ (x : List ℕ). Alive2Taken x port kind protocol highest lowest name extra) (sym (w .1))
+      (taken f (h .1 .0) (name-short name (h .1 .0)) (leb-true (length extra) 128 (h .0)) (h .1 .1 .0))
 
 -- ---- PORT_PLEASE2_REQ and NAMES_REQ
 
@@ -133,12 +107,8 @@ module _ (name : List ℕ) where
   question-accepted : (given count : ℕ) → portPlease2Writing name given .answer ≡ Written count → PortPlease2Taken (portPlease2Writing name given .bytes) name
   unfolding portPlease2Writing
   question-accepted given count e =
-      let frame = portPlease2Frame name in
-      let w : Writing = record { answer = Written (length frame); bytes = frame } in
-      let c1 : List (Check Refusal) = (leb (length frame) given else OutputTooShort) ∷ [] in
-      let h = ap hasWritten e in
-      let p6 = passed (nodeName name) BadName c1 w h in
-      subst (λ (x : Writing). PortPlease2Taken (x .bytes) name) (sym (wrote ((nodeName name else BadName) ∷ c1) w h)) (question-taken (p6 .0))
+      let w = wrote (portPlease2Rules name) (portPlease2Frame name) given count e in
+      subst (λ (x : List ℕ). PortPlease2Taken x name) (sym (w .1)) (question-taken (w .0 .0))
 
 names-taken : (given : ℕ) → room ≤ given → examineOf namesFrame given ≡ Names
 unfolding namesFrame beAt part
@@ -148,9 +118,7 @@ names-taken given h =
 
 names-accepted : (given count : ℕ) → namesWriting given .answer ≡ Written count → (given′ : ℕ) → room ≤ given′ → examineOf (namesWriting given .bytes) given′ ≡ Names
 unfolding namesWriting
-names-accepted given count e given′ h =
-    let w : Writing = record { answer = Written (length namesFrame); bytes = namesFrame } in
-    ap (λ (x : Writing). examineOf (x .bytes) given′) (wrote ((leb (length namesFrame) given else OutputTooShort) ∷ []) w (ap hasWritten e)) ∙ names-taken given′ h
+names-accepted given count e given′ h = ap (λ (x : List ℕ). examineOf x given′) (wrote [] namesFrame given count e .1) ∙ names-taken given′ h
 
 pub request-accepted : RequestAccepted
 request-accepted =

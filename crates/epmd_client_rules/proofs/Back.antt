@@ -4,14 +4,13 @@ use mathlib.Core.Path.{_≡_, refl, sym, ap, ap₂, _∙_}
 use mathlib.Core.Bool.{Bool, true, false, cond}
 use mathlib.Core.List.{List, [], _∷_}
 use native.Mathlib.Omega.{arith}
-use borrow.Author.Tests.{eq-eqb, ne-eqb, le-leb, eqb-true, eqb-false}
+use borrow.Author.Tests.{eq-eqb, ne-eqb, eqb-true, eqb-false}
 use lib.ListN.{length}
 use lib.Dec.{eqb, leb}
 use Rattle.wire.specs.Run.{part}
 use Rattle.wire.specs.Number.{beAt}
 use Rattle.wire.specs.Layout.{Value, int, run, Fits, encode, extent}
 use Rattle.wire.proofs.LayoutLaws.{extent-back, int-back, run-back}
-use Rattle.wire.proofs.RunLaws.{part-length}
 use Rattle.names.specs.Held.{nameBytes}
 use Rattle.epmd_rules.specs.declared.registration.Registration.{Registration}
 use Rattle.epmd_rules.specs.Messages.{alive2XResp, alive2Resp, port2Resp}
@@ -25,6 +24,7 @@ use Rattle.epmd_client_rules.specs.declared.reply.Port2.{Port2}
 use Rattle.epmd_client_rules.specs.declared.reply.Port2Reply.the-variants as port2
 use Rattle.epmd_client_rules.specs.Replies.{resultIn, nameIn, extraIn, fieldsIn, port2Long, alive2Read, port2Read}
 use Rattle.epmd_client_rules.specs.Claims.{toldOf, alive2Told, port2Told, Port2Back, PartsLie}
+use Rattle.epmd_client_rules.proofs.ReplyLaws.{found-told, name-length, extra-length}
 
 -- ---- 118 and 121
 
@@ -74,11 +74,6 @@ alive2-back highest result c r8 h = by (leb 6 highest) where
 
 -- ---- 119
 
--- what is read where nothing is refused
-port2-found : (b : List ℕ) → tag b ≡ 119 → resultIn b ≡ 0 → length b ≡ extent port2Resp b → port2Read b ≡ port2.Found (fieldsIn b)
-unfolding port2Read
-port2-found b t r l = rw (t, r, eq-eqb (length b) (extent port2Resp b) l, le-leb 1 (length b) (omega arith))
-
 found-whole : (b : List ℕ) (p : Port2) → port2Read b ≡ port2.Found p → (length b ≡ extent port2Resp b) × (p ≡ fieldsIn b)
 unfolding port2Read
 found-whole b p e = by (leb 1 (length b)) (eqb (tag b) 119) (eqb (resultIn b) 0) refl (port2Long b) refl e where
@@ -96,8 +91,8 @@ found-whole b p e = by (leb 1 (length b)) (eqb (tag b) 119) (eqb (resultIn b) 0)
 pub parts-lie : PartsLie
 parts-lie b p e =
     let w = found-whole b p e in
-    let name : length (nameIn b) ≡ beAt 2 10 b = part-length 12 (beAt 2 10 b) b (omega (arith, w .0)) in
-    let extra : length (extraIn b) ≡ beAt 2 (12 + beAt 2 10 b) b = part-length (12 + beAt 2 10 b + 2) (beAt 2 (12 + beAt 2 10 b) b) b (omega (arith, w .0)) in (
+    let name = name-length b (w .0) in
+    let extra = extra-length b (w .0) in (
       ap (λ (q : Port2). part (q .name .at) (q .name .len) b) (w .1) ∙ ap (λ (n : ℕ). part 12 n b) name,
       ap (λ (q : Port2). part (q .extra .at) (q .extra .len) b) (w .1) ∙ ap₂ (λ (n m : ℕ). part (12 + n + 2) m b) name extra,
     )
@@ -136,7 +131,7 @@ module _ (port kind protocol highest lowest : ℕ) (name extra : List ℕ) where
         let n = name-back in
         let x = extra-back in
         let at : 12 + length name + 2 ≡ 14 + length name = omega arith in
-        port2-found bytes (is 0) (is 1) (sym (extent-back port2Resp values f))
+        found-told bytes (omega (arith, extent-back port2Resp values f)) (is 0) (is 1) (sym (extent-back port2Resp values f))
         ∙ ap port2.Found (λ i.
         record {
           port = is 2 i;

@@ -1,14 +1,13 @@
 -- Which number each writer and reader gives, exactly when (specs/Claims). Assumes nothing.
 use Prim.Native.Nat.{ℕ, _+_}
-use mathlib.Core.Path.{_≡_, refl, subst, _∙_}
+use mathlib.Core.Path.{_≡_, refl, subst}
 use mathlib.Core.Bool.{Bool, true, false, cond}
-use mathlib.Core.List.{List, [], _∷_, _++_}
+use mathlib.Core.List.{List, [], _∷_}
 use native.Mathlib.Omega.{arith}
-use lib.ListN.{length, length-append}
+use lib.ListN.{length}
 use lib.Dec.{eqb, leb}
 use Rattle.wire.specs.Layout.{extent}
-use Rattle.wire.specs.Number.{be, beAt}
-use Rattle.wire.proofs.FrameLaws.{framed-length}
+use Rattle.wire.specs.Number.{beAt}
 use Rattle.names.specs.Node.{nodeName}
 use Rattle.epmd_rules.specs.declared.refusal.Refusal.the-variants.{OutputTooShort, BadLength, BadName, BadVersions}
 use Rattle.epmd_rules.specs.declared.answer.Answer.the-variants.{Written}
@@ -21,27 +20,11 @@ use Rattle.epmd_client_rules.specs.declared.reply.Alive2Reply.the-varian
 use Rattle.epmd_client_rules.specs.declared.reply.Port2.{Port2}
 use Rattle.epmd_client_rules.specs.declared.reply.Port2Reply.{Port2Reply}
 use Rattle.epmd_client_rules.specs.declared.reply.Port2Reply.the-variants as port2
-use Rattle.epmd_client_rules.specs.Requests.{refused, alive2Body, alive2Frame, portPlease2Frame, namesFrame, alive2Writing, portPlease2Writing, namesWriting}
+use Rattle.epmd_client_rules.specs.Requests.{refused, alive2Frame, portPlease2Frame, namesFrame, alive2Writing, portPlease2Writing, namesWriting}
 use Rattle.epmd_client_rules.specs.Replies.{resultIn, isAlive2Reply, alive2Long, creationIn, port2Long, fieldsIn, alive2Read, port2Read}
 use Rattle.epmd_client_rules.specs.Answers.{unreadableNumber, alive2Numbers, port2Numbers}
 use Rattle.epmd_client_rules.specs.Claims.{Alive2Gives, PortPlease2Gives, NamesGives, ReplyGives, RefusedExactly}
-
--- ---- how long the frames are
-
-pub alive2-length : (port kind protocol highest lowest : ℕ) (name extra : List ℕ)
-    → length (alive2Frame port kind protocol highest lowest name extra) ≡ 15 + length name + length extra
-unfolding alive2Frame
-alive2-length port kind protocol highest lowest name extra =
-    framed-length (alive2Body port kind protocol highest lowest name extra)
-    ∙ omega (arith, length-append name (be 2 (length extra) ++ (extra ++ [])), length-append extra [])
-
-pub port-please2-length : (name : List ℕ) → length (portPlease2Frame name) ≡ 3 + length name
-unfolding portPlease2Frame
-port-please2-length name = framed-length (122 ∷ name) ∙ omega arith
-
-pub names-length : length namesFrame ≡ 3
-unfolding namesFrame
-names-length = framed-length (110 ∷ [])
+use Rattle.epmd_client_rules.proofs.WritingLaws.{alive2-size, portPlease2-size, names-size}
 
 -- ---- writers: by the answers of their tests
 
@@ -90,14 +73,14 @@ refused-exactly =
       alive2-request = λ port kind protocol highest lowest name extra given.
           let f = alive2Frame port kind protocol highest lowest name extra in
           subst (λ (n : ℕ). Alive2Gives (leb (length extra) 128) (nodeName name) (versionsOk highest lowest) (leb n given) (alive2Writing port kind protocol highest lowest name extra given))
-          (alive2-length port kind protocol highest lowest name extra)
+          (alive2-size port kind protocol highest lowest name extra)
           (alive2-gives (leb (length extra) 128) (nodeName name) (versionsOk highest lowest) (leb (length f) given) (length f) f);
       port-please2-request = λ name given.
           let f = portPlease2Frame name in
-          subst (λ (n : ℕ). PortPlease2Gives (nodeName name) (leb n given) (portPlease2Writing name given)) (port-please2-length name)
+          subst (λ (n : ℕ). PortPlease2Gives (nodeName name) (leb n given) (portPlease2Writing name given)) (portPlease2-size name)
           (port-please2-gives (nodeName name) (leb (length f) given) (length f) f);
       names-request = λ given.
-          subst (λ (n : ℕ). NamesGives (leb n given) (namesWriting given)) names-length (names-gives (leb (length namesFrame) given) (length namesFrame) namesFrame);
+          subst (λ (n : ℕ). NamesGives (leb n given) (namesWriting given)) names-size (names-gives (leb (length namesFrame) given) (length namesFrame) namesFrame);
       alive2-reply = λ b.
           reply-gives (λ (r : Alive2Reply). alive2Numbers r .refusal) alive2.Refused (cond (eqb (resultIn b) 0) (alive2.Registered (tag b) (creationIn b)) (alive2.Failed (tag b) (resultIn b))) (λ u. refl)
           (alive2-due (eqb (resultIn b) 0) (tag b) (creationIn b) (resultIn b)) (leb 1 (length b)) (isAlive2Reply (tag b)) (alive2Long b);

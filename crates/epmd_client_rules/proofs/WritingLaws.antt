@@ -13,13 +13,13 @@ use Rattle.wire.specs.Layout.{counted, int, run, encodeField, encode}
 use Rattle.wire.specs.Output.{written}
 use Rattle.wire.proofs.FrameLaws.{framed-split}
 use Rattle.wire.proofs.OutputLaws.{written-none}
-use Rattle.names.proofs.NodeLaws.{name-short}
 use Rattle.epmd_rules.specs.declared.refusal.Refusal.{Refusal}
 use Rattle.epmd_rules.specs.declared.refusal.Refusal.the-variants.{OutputTooShort}
 use Rattle.epmd_rules.specs.declared.answer.Answer.{Answer}
 use Rattle.epmd_rules.specs.declared.answer.Answer.the-variants.{Written, Refused}
 use Rattle.epmd_rules.specs.Messages.{alive2Req, portPlease2Req, namesReq}
 use Rattle.epmd_rules.specs.Requests.{Check, _else_, firstRefusal, alive2Rules, portPlease2Rules}
+use Rattle.names.proofs.NodeLaws.{name-short}
 use Rattle.epmd_client_rules.specs.Requests.{Writing, Writes, refused, writing, alive2Frame, portPlease2Frame, namesFrame}
 use Rattle.epmd_client_rules.specs.Decision.{decided}
 
@@ -36,6 +36,10 @@ by-answer [] n frame = refl
 by-answer ((true else why) ∷ cs) n frame = by-answer cs n frame
 by-answer ((false else why) ∷ cs) n frame = refl
 
+own : (frame : List ℕ) (a : Answer) → a ≡ doing frame a .answer
+own frame (Written n) = refl
+own frame (Refused why) = refl
+
 -- a decision by the frame's size is the writer's answer
 module _ (rules : List (Check Refusal)) (frame : List ℕ) (size given : ℕ) (e : length frame ≡ size) (a : Answer) (d : a ≡ decided rules size given) where
   writes : (out out' : List ℕ) → out' ≡ written (doing frame a .bytes) out → Writes (writing rules frame given) a out out'
@@ -44,10 +48,7 @@ module _ (rules : List (Check Refusal)) (frame : List ℕ) (size given : ℕ) (e
       by-answer (rules ++ ((leb (length frame) given else OutputTooShort) ∷ [])) (length frame) frame
       ∙ ap (λ (k : ℕ). doing frame (decided rules k given)) e
       ∙ ap (doing frame) (sym d) in
-      rw w (record { answer = own a; output = o }) where
-        own : (x : Answer) → x ≡ doing frame x .answer
-        own (Written n) = refl
-        own (Refused why) = refl
+      rw w (record { answer = own frame a; output = o })
 
   pub writes-none : (why : Refusal) (out : List ℕ) → a ≡ Refused why → Writes (writing rules frame given) a out out
   writes-none why out r = writes out out (rw r (sym (written-none out)))
@@ -67,6 +68,14 @@ all-hold ((false else why) ∷ cs) n m e = let z : _≡_ {A = ℕ} 0 1 = cc in a
 
 held : (rules : List (Check Refusal)) (size given m : ℕ) → decided rules size given ≡ Written m → AllHold (rules ++ ((leb size given else OutputTooShort) ∷ []))
 held rules size given m e = all-hold (rules ++ ((leb size given else OutputTooShort) ∷ [])) size m e
+
+-- by the writer's own answer: what it wrote is its frame, and every rule held
+pub wrote : (rules : List (Check Refusal)) (frame : List ℕ) (given m : ℕ) → writing rules frame given .answer ≡ Written m
+    → AllHold (rules ++ ((leb (length frame) given else OutputTooShort) ∷ [])) × (writing rules frame given .bytes ≡ frame)
+wrote rules frame given m e =
+    let w = by-answer (rules ++ ((leb (length frame) given else OutputTooShort) ∷ [])) (length frame) frame in
+    let d : decided rules (length frame) given ≡ Written m = own frame (decided rules (length frame) given) ∙ ap (λ (x : Writing). x .answer) (sym w) ∙ e in
+    (held rules (length frame) given m d, ap (λ (x : Writing). x .bytes) w ∙ ap (λ (a : Answer). doing frame a .bytes) d)
 
 -- ---- ALIVE2_REQ: the head, the name behind Nlen, the extra bytes behind Elen
 
@@ -100,6 +109,10 @@ module _ (port kind protocol highest lowest : ℕ) (name extra : List ℕ) where
       ∙ framed-split front runs (13 + length name + length extra) (omega (arith, runs-length))
       ∙ ap (λ (l : List ℕ). framed (front ++ (encodeField (counted 2) (run name) ++ l))) (sym (append-nil (encodeField (counted 2) (run extra))))
 
+  pub alive2-size : length (alive2Frame port kind protocol highest lowest name extra) ≡ 15 + length name + length extra
+  alive2-size =
+      ap length (sym alive2-split) ∙ ap length (append-assoc alive2Head (encodeField (counted 2) (run name)) (encodeField (counted 2) (run extra))) ∙ omega (arith, runs-length)
+
 -- ---- PORT_PLEASE2_REQ and NAMES_REQ: a length and a tag, and the name
 
 pub portPlease2-held : (name : List ℕ) (given m : ℕ) → decided (portPlease2Rules name) (3 + length name) given ≡ Written m
@@ -112,9 +125,15 @@ pub portPlease2-split : (name : List ℕ) → (be 2 (1 + length name) ++ encode 
 unfolding portPlease2Frame
 portPlease2-split name = framed-split (encode portPlease2Req (int 122 ∷ [])) name (1 + length name) refl
 
+pub portPlease2-size : (name : List ℕ) → length (portPlease2Frame name) ≡ 3 + length name
+portPlease2-size name = ap length (sym (portPlease2-split name)) ∙ omega arith
+
 pub names-held : (given m : ℕ) → decided [] 3 given ≡ Written m → 3 ≤ given
 names-held given m e = leb-true 3 given (held [] 3 given m e .0)
 
 pub names-head : be 2 1 ++ encode namesReq (int 110 ∷ []) ≡ namesFrame
 unfolding namesFrame framed
 names-head = refl
+
+pub names-size : length namesFrame ≡ 3
+names-size = ap length (sym names-head)

@@ -4,8 +4,7 @@ use lib.ListN.{length}
 use Rattle.epmd_rules.specs.declared.answer.Answer.the-variants.{Written}
 use Rattle.epmd_rules.specs.Requests.{alive2Rules}
 use Rattle.epmd_client_rules.specs.Requests.{alive2Frame, alive2Writing}
-use Rattle.epmd_client_rules.proofs.WritingLaws.{writes-none, writes-frame, alive2-held}
-use Rattle.epmd_client_rules.proofs.Exactly.{alive2-length}
+use Rattle.epmd_client_rules.proofs.WritingLaws.{writes-none, writes-frame, alive2-held, alive2-size}
 use borrow.Author.Needs.{needs}
 use Rattle.epmd_client.proofs.requests.alive2_request.Statement.{statement}
 use Rattle.epmd_client.proofs.requests.alive2_request.Tie as tie
@@ -26,7 +25,7 @@ returns c =
     let n = a .name .now in
     let x = a .extra .now in
     writes-none (alive2Rules (a .highest) (a .lowest) n x) (alive2Frame (a .port) (a .kind) (a .protocol) (a .highest) (a .lowest) n x) (15 + length n + length x) (length (a .out .now))
-    (alive2-length (a .port) (a .kind) (a .protocol) (a .highest) (a .lowest) n x) _ (c .before .before .decide-alive2 .ensures) _ (a .out .now) (c .enum-told .given .1)
+    (alive2-size (a .port) (a .kind) (a .protocol) (a .highest) (a .lowest) n x) _ (c .before .before .decide-alive2 .ensures) _ (a .out .now) (c .enum-told .given .1)
 
 put-alive2-requires : tie.Need-put-alive2-requires
 put-alive2-requires c κs =
@@ -43,7 +42,7 @@ returns-2 c =
     let n = a .name .now in
     let x = a .extra .now in
     writes-frame (alive2Rules (a .highest) (a .lowest) n x) (alive2Frame (a .port) (a .kind) (a .protocol) (a .highest) (a .lowest) n x) (15 + length n + length x) (length (a .out .now))
-    (alive2-length (a .port) (a .kind) (a .protocol) (a .highest) (a .lowest) n x) (Written _) (sym (c .before .before .before .before .before .answer .given .1) ∙ c .before .before .before .before .before .before .before .decide-alive2 .ensures) _ (a .out .now) _ refl (c .before .before .put-alive2 .ensures)
+    (alive2-size (a .port) (a .kind) (a .protocol) (a .highest) (a .lowest) n x) (Written _) (sym (c .before .before .before .before .before .answer .given .1) ∙ c .before .before .before .before .before .before .before .decide-alive2 .ensures) _ (a .out .now) _ refl (c .before .before .put-alive2 .ensures)
 
 pub alive2-request-spec : {M : Type 1} → statement M
 alive2-request-spec =

@@ -3,8 +3,7 @@ use mathlib.Core.List.{[]}
 use lib.ListN.{length}
 use Rattle.epmd_rules.specs.declared.answer.Answer.the-variants.{Written}
 use Rattle.epmd_client_rules.specs.Requests.{namesFrame, namesWriting}
-use Rattle.epmd_client_rules.proofs.WritingLaws.{writes-none, writes-frame, names-held}
-use Rattle.epmd_client_rules.proofs.Exactly.{names-length}
+use Rattle.epmd_client_rules.proofs.WritingLaws.{writes-none, writes-frame, names-held, names-size}
 use borrow.Author.Needs.{needs}
 use Rattle.epmd_client.proofs.requests.names_request.Statement.{statement}
 use Rattle.epmd_client.proofs.requests.names_request.Tie as tie
@@ -22,7 +21,7 @@ returns : tie.Need-returns
 unfolding namesWriting
 returns c =
     let o = c .before .before .before .before .args .out .now in
-    writes-none [] namesFrame 3 (length o) names-length _ (c .before .before .decide-room .ensures) _ o (c .enum-told .given .1)
+    writes-none [] namesFrame 3 (length o) names-size _ (c .before .before .decide-room .ensures) _ o (c .enum-told .given .1)
 
 put-names-requires : tie.Need-put-names-requires
 put-names-requires c κs =
@@ -35,7 +34,7 @@ returns-2 : tie.Need-returns-2
 unfolding namesWriting
 returns-2 c =
     let o = c .before .before .before .before .before .before .before .before .before .args .out .now in
-    writes-frame [] namesFrame 3 (length o) names-length (Written _) (sym (c .before .before .before .before .before .answer .given .1) ∙ c .before .before .before .before .before .before .before .decide-room .ensures) _ o _ refl (c .before .before .put-names .ensures)
+    writes-frame [] namesFrame 3 (length o) names-size (Written _) (sym (c .before .before .before .before .before .answer .given .1) ∙ c .before .before .before .before .before .before .before .decide-room .ensures) _ o _ refl (c .before .before .put-names .ensures)
 
 pub names-request-spec : {M : Type 1} → statement M
 names-request-spec =

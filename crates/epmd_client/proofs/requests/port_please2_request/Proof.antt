@@ -4,8 +4,7 @@ use lib.ListN.{length}
 use Rattle.epmd_rules.specs.declared.answer.Answer.the-variants.{Written}
 use Rattle.epmd_rules.specs.Requests.{portPlease2Rules}
 use Rattle.epmd_client_rules.specs.Requests.{portPlease2Frame, portPlease2Writing}
-use Rattle.epmd_client_rules.proofs.WritingLaws.{writes-none, writes-frame, portPlease2-held}
-use Rattle.epmd_client_rules.proofs.Exactly.{port-please2-length}
+use Rattle.epmd_client_rules.proofs.WritingLaws.{writes-none, writes-frame, portPlease2-held, portPlease2-size}
 use borrow.Author.Needs.{needs}
 use Rattle.epmd_client.proofs.requests.port_please2_request.Statement.{statement}
 use Rattle.epmd_client.proofs.requests.port_please2_request.Tie as tie
@@ -24,7 +23,7 @@ unfolding portPlease2Writing
 returns c =
     let a = c .before .before .before .before .before .args in
     let n = a .name .now in
-    writes-none (portPlease2Rules n) (portPlease2Frame n) (3 + length n) (length (a .out .now)) (port-please2-length n) _ (c .before .before .decide-port-please2 .ensures) _ (a .out .now) (c .enum-told .given .1)
+    writes-none (portPlease2Rules n) (portPlease2Frame n) (3 + length n) (length (a .out .now)) (portPlease2-size n) _ (c .before .before .decide-port-please2 .ensures) _ (a .out .now) (c .enum-told .given .1)
 
 put-port-please2-requires : tie.Need-put-port-please2-requires
 put-port-please2-requires c κs =
@@ -39,7 +38,7 @@ unfolding portPlease2Writing
 returns-2 c =
     let a = c .before .before .before .before .before .before .before .before .before .before .args in
     let n = a .name .now in
-    writes-frame (portPlease2Rules n) (portPlease2Frame n) (3 + length n) (length (a .out .now)) (port-please2-length n) (Written _)
+    writes-frame (portPlease2Rules n) (portPlease2Frame n) (3 + length n) (length (a .out .now)) (portPlease2-size n) (Written _)
     (sym (c .before .before .before .before .before .answer .given .1) ∙ c .before .before .before .before .before .before .before .decide-port-please2 .ensures) _ (a .out .now) _ refl (c .before .before .put-port-please2 .ensures)
 
 pub port-please2-request-spec : {M : Type 1} → statement M
