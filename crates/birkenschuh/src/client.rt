@@ -23,8 +23,16 @@ pub extern "C" fn bks_alive2_request(
 ) -> Numbers
     ensures { λ x. ⌜ Writes (alive2Writing port kind protocol highest lowest (now (name .entry)) (now (extra .entry)) (length (now (out .entry)))) x (now (out .entry)) (now (out .exit)) ⌝ }
 {
-    let answer =
-        epmd_client::alive2_request(port, kind, protocol, highest, lowest, name, extra, out);
+    let answer = epmd_client::alive2_request(
+        port,
+        kind,
+        protocol,
+        highest,
+        lowest,
+        name,
+        extra,
+        out,
+    );
     answer.numbers()
 }
 
