@@ -2,3 +2,4 @@ pub mod Requests
 pub mod Replies
 pub mod Readings
 pub mod Answers
+pub mod ReadingClaims
