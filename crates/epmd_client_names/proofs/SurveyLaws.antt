@@ -1,9 +1,9 @@
 -- The readings from a place on whose first name has n bytes, by what the scan finds; and the turns of the loops. Assumes nothing.
-use Prim.Native.Nat.{ℕ, zero, suc, _+_, _*_, _-_, _≤_, _<_}
+use Prim.Native.Nat.{ℕ, suc, _+_, _*_, _-_, _≤_, _<_}
 use mathlib.Core.Path.{_≡_, refl, sym, ap, _∙_, subst}
-use mathlib.Core.List.{List, [], _∷_, _++_, append-assoc}
+use mathlib.Core.Logic.{⊎-elim, inl, inr}
 use mathlib.Core.Bool.{Bool, true, false}
-use mathlib.Core.Logic.{⊎-elim, _⊎_, inl, inr}
+use mathlib.Core.List.{List, [], _∷_, _++_, append-assoc}
 use native.Mathlib.Omega.{arith}
 use lib.ListN.{length, take, drop, getD, set, length-append, length-set, take-append-drop}
 use lib.Seq.{take-at, drop-drop, getD-set-same, getD-set-other, drop-length}
@@ -17,12 +17,11 @@ use Rattle.names.proofs.NodeLaws.{name-some, name-short}
 use Rattle.epmd_rules.specs.Replies.{nameWord, lineWith}
 use Rattle.epmd_rules.proofs.ReplyLaws.{line-length, port-short}
 use Rattle.epmd_client_rules.specs.Readings.{Line, lineText, linesText, Allowed}
-use Rattle.epmd_client_names.specs.declared.text.Tail.{Tail}
 use Rattle.epmd_client_names.specs.declared.text.Tail.the-variants.{Missing, Found}
 use Rattle.epmd_client_names.specs.declared.tally.Tally.{Tally}
 use Rattle.epmd_client_names.specs.Text.{tailText, hasAt, tailAt, NameEnds}
 use Rattle.epmd_client_names.specs.Tallies.{Set, Means, joinOf}
-use Rattle.epmd_client_names.specs.Survey.{Lines, FirstIs, FirstBelow, Exact, Below, Tallied, Rows, Room}
+use Rattle.epmd_client_names.specs.Survey.{Lines, Exact, Below, Tallied, Rows, Room}
 use Rattle.epmd_client_names.proofs.TextLaws.{has-true, has-of}
 use Rattle.epmd_client_names.proofs.PortLaws.{TailHere, tail-length, tail-complete, tail-sound}
 use Rattle.epmd_client_names.proofs.TallyLaws.{same, Or, joined, join-lines, later}

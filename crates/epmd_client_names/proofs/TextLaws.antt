@@ -1,18 +1,17 @@
 -- Laws of the scan as code does it: words, digits, ports. Assumes nothing.
 use Prim.Native.Nat.{ℕ, zero, suc, _+_, _*_, _-_, _≤_, _<_}
 use mathlib.Core.Path.{_≡_, refl, sym, ap, _∙_}
-use mathlib.Core.List.{List, [], _∷_, _++_}
-use mathlib.Core.Bool.{Bool, true, false, cond}
+use mathlib.Core.Bool.{Bool, true, false}
+use mathlib.Core.List.{List, _++_}
 use native.Mathlib.Omega.{arith}
 use lib.ListN.{length, take, drop, getD, length-append, length-drop, length-take, take-append-drop, List·getD-eq-default}
 use lib.Seq.{take-at, drop-drop}
-use lib.Dec.{ltb, leb, eqb}
+use lib.Dec.{ltb, eqb}
 use borrow.Author.Tests.{ltb-true, ltb-false, eqb-true, eqb-false, eq-eqb, ne-eqb, lt-ltb, le-ltb}
-use Rattle.wire.specs.Run.{part, sameBytes}
+use Rattle.wire.specs.Run.{part}
 use Rattle.wire.proofs.RunLaws.{same-decides, same-length-ne}
 use Rattle.epmd_rules.specs.Replies.{portWord}
-use Rattle.epmd_client_names.specs.declared.text.Tail.{Tail}
-use Rattle.epmd_client_names.specs.declared.text.Tail.the-variants.{Missing, Found}
+use Rattle.epmd_client_names.specs.declared.text.Tail.the-variants.{Missing}
 use Rattle.epmd_client_names.specs.Text.{hasAt, digitAt, closedAt, portFrom, portAt, tailAt, NameEnds}
 
 -- ---- words

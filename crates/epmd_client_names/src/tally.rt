@@ -6,8 +6,11 @@ ghost use Rattle.epmd_client_names.specs.Tallies.{beatenOf, joinOf, lead
 
 // No reading; exactly one; one with the fewest lines, and others with more; two with the fewest.
 pub(crate) const NONE: u8 = 0;
+
 pub(crate) const ONE: u8 = 1;
+
 pub(crate) const LEAST: u8 = 2;
+
 pub(crate) const SEVERAL: u8 = 3;
 
 pub struct Tally {

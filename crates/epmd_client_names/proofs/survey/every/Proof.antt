@@ -1,18 +1,13 @@
 use Prim.Native.Nat.{ℕ, _+_, _-_, _≤_}
-use mathlib.Core.Path.{_≡_, sym, _∙_, subst}
+use mathlib.Core.Path.{_≡_, sym, subst}
 use native.Mathlib.Omega.{arith}
-use borrow.Author.Needs.{needs}
 use lib.ListN.{length}
+use borrow.Author.Needs.{needs}
 use Rattle.epmd_client_names.specs.declared.tally.Tally.{Tally}
 use Rattle.epmd_client_names.specs.Survey.{Below, Tallied}
 use Rattle.epmd_client_names.proofs.SurveyLaws.{below-one, turn, skipped, all-turns}
 use Rattle.epmd_client_names.proofs.survey.every.Statement.{statement}
 use Rattle.epmd_client_names.proofs.survey.every.Tie as tie
-use Rattle.epmd_client_names.proofs.survey.every.Reads as reads
-use Rattle.epmd_client_names.proofs.survey.every.Lts as lts
-use Rattle.epmd_client_names.proofs.survey.through.Reads as through-reads
-use Rattle.epmd_client_names.proofs.tally.join.Reads as join-reads
-use Rattle.epmd_client_names.proofs.text.name_end.Reads as name-end-reads
 
 abbrev Inv-loop : tie.InvT-loop
 Inv-loop s p kinds few acc₀ from n₀ acc n = (n ≤ 256) × Tallied (Below s p n) s p (acc .kind) (acc .lines)

@@ -5,8 +5,6 @@ use Rattle.epmd_client_names.specs.Text.{NameEnds}
 use Rattle.epmd_client_names.proofs.TextLaws.{ends-more, ends-short}
 use Rattle.epmd_client_names.proofs.text.name_end.Statement.{statement}
 use Rattle.epmd_client_names.proofs.text.name_end.Tie as tie
-use Rattle.epmd_client_names.proofs.text.name_end.Reads as reads
-use Rattle.epmd_client_names.proofs.text.name_end.Lts as lts
 
 abbrev Inv-loop : tie.InvT-loop
 Inv-loop s from n k₀ k = NameEnds s from n k

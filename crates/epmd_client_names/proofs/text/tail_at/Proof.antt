@@ -1,13 +1,9 @@
-use mathlib.Core.Path.{_≡_, sym, _∙_}
+use mathlib.Core.Path.{sym, _∙_}
+use borrow.Author.Needs.{needs}
 use Rattle.epmd_rules.specs.Replies.{portWord}
 use Rattle.epmd_client_names.proofs.TextLaws.{has-inside, tail-on, tail-off}
-use borrow.Author.Needs.{needs}
 use Rattle.epmd_client_names.proofs.text.tail_at.Statement.{statement}
 use Rattle.epmd_client_names.proofs.text.tail_at.Tie as tie
-use Rattle.epmd_client_names.proofs.text.tail_at.Reads as reads
-use Rattle.epmd_client_names.proofs.text.tail_at.Lts as lts
-use Rattle.epmd_client_names.proofs.text.has.Reads as has-reads
-use Rattle.epmd_client_names.proofs.text.port_at.Reads as port-at-reads
 
 slice-aggregate-has : tie.Need-slice-aggregate-has
 slice-aggregate-has c = search needs

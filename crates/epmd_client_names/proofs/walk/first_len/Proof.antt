@@ -1,19 +1,14 @@
-use Prim.Native.Nat.{ℕ, _+_, _-_, _≤_}
+use Prim.Native.Nat.{ℕ, _-_, _≤_}
 use mathlib.Core.Path.{_≡_, sym, _∙_, subst}
+use mathlib.Core.List.{List}
 use native.Mathlib.Omega.{arith}
 use borrow.Author.Needs.{needs}
-use mathlib.Core.List.{List}
 use Rattle.epmd_client_rules.specs.Readings.{Line}
 use Rattle.epmd_client_names.specs.Survey.{FirstBelow}
 use Rattle.epmd_client_names.specs.Walk.{Lead}
 use Rattle.epmd_client_names.proofs.WalkLaws.{lead-start, lead-first, lead-next, lead-end}
 use Rattle.epmd_client_names.proofs.walk.first_len.Statement.{statement}
 use Rattle.epmd_client_names.proofs.walk.first_len.Tie as tie
-use Rattle.epmd_client_names.proofs.walk.first_len.Reads as reads
-use Rattle.epmd_client_names.proofs.walk.first_len.Lts as lts
-use Rattle.epmd_client_names.proofs.survey.through.Reads as through-reads
-use Rattle.epmd_client_names.proofs.tally.leads.Reads as leads-reads
-use Rattle.epmd_client_names.proofs.text.name_end.Reads as name-end-reads
 
 abbrev Inv-loop : tie.InvT-loop
 Inv-loop s p k kinds few from n₀ n = (n ≤ 256) × ((x : List Line) → Lead s p k x → FirstBelow n x → ⊥)
