@@ -6,7 +6,7 @@ use mathlib.Core.List.{List, [], _∷_}
 use lib.ListN.{length, drop, getD}
 use Rattle.wire.specs.Table.{Each}
 use Rattle.epmd_rules.specs.Replies.{nameWord}
-use Rattle.epmd_client_rules.specs.Readings.{Line, linesText, Allowed}
+use Rattle.epmd_client_rules.specs.Readings.{linesText, Allowed}
 use Rattle.epmd_client_names.specs.Text.{hasAt}
 use Rattle.epmd_client_names.specs.Tallies.{Set, Means}
 

@@ -49,10 +49,11 @@ fn every(s: &[u8], p: usize, kinds: &[u8], few: &[u16]) -> Tally
         kind: NONE,
         lines: 0,
     };
-    let mut n: usize = 1;
+    let from = p + 5;
+    let mut n = crate::text::name_end(s, from, 1);
     while n < 256 {
         acc = crate::tally::join(acc, through(s, p, n, kinds, few));
-        n += 1;
+        n = crate::text::name_end(s, from, n + 1);
     }
     acc
 }

@@ -2,7 +2,7 @@
 ghost use mathlib.Core.Path.{_≡_};
 ghost use Prim.Native.Nat.{_≤_};
 ghost use lib.ListN.{length};
-ghost use Rattle.epmd_client_names.specs.Text.{hasAt, digitAt, closedAt, portAt, tailAt};
+ghost use Rattle.epmd_client_names.specs.Text.{hasAt, digitAt, closedAt, portAt, tailAt, NameEnds};
 
 // What follows a name: ` at port `, the port and a newline, with the place behind them.
 pub enum Tail {
@@ -92,16 +92,28 @@ pub(crate) fn tail_at(s: &[u8], q: usize) -> Tail
     requires { ⌜ (q ≤ length (now s)) × (length (now s) ≤ 17600) ⌝ }
     ensures { λ r. ⌜ r ≡ tailAt (now (s .entry)) q ⌝ }
 {
-    if s.len() - q < 9 {
-        return Tail::Missing;
-    }
-    // most places end here
-    if s[q] != 32 {
-        return Tail::Missing;
-    }
     if has(s, q, b" at port ") {
         port_at(s, q + 9)
     } else {
         Tail::Missing
     }
+}
+
+// The first length from n on at which a name from a place may end, since a space follows it, or 256.
+pub(crate) fn name_end(s: &[u8], from: usize, n: usize) -> usize
+    requires { ⌜ (from ≤ 17605) × (n ≤ 256) ⌝ }
+    ensures { λ r. ⌜ NameEnds (now (s .entry)) from n r ⌝ }
+{
+    let mut k = n;
+    while k < 256 {
+        let q = from + k;
+        if s.len() <= q {
+            return 256;
+        }
+        if s[q] == 32 {
+            return k;
+        }
+        k += 1;
+    }
+    k
 }

@@ -9,12 +9,13 @@ fn first_len(s: &[u8], p: usize, k: u16, kinds: &[u8], few: &[u16]) -> usize
     requires { ⌜ Begun (now s) p (now kinds) (now few) ⌝ }
     ensures { λ r. ⌜ FirstLen (now (s .entry)) p k r ⌝ }
 {
-    let mut n: usize = 1;
+    let from = p + 5;
+    let mut n = crate::text::name_end(s, from, 1);
     while n < 256 {
         if crate::tally::leads(crate::survey::through(s, p, n, kinds, few), k) {
             return n;
         }
-        n += 1;
+        n = crate::text::name_end(s, from, n + 1);
     }
     0
 }

@@ -1,11 +1,10 @@
 -- The answer to a NAMES reply is fixed by the reply: 5 exactly if there is no reading, 20 exactly if there are two. Assumes nothing.
 use Prim.Native.Nat.{ℕ}
 use mathlib.Core.Path.{_≡_, refl, sym, ap, _∙_}
-use mathlib.Core.Logic.{_↔_}
 use mathlib.Core.List.{List}
 use native.Mathlib.Omega.{arith}
 use Rattle.epmd_client_rules.specs.declared.reply.NamesReply.{NamesReply}
-use Rattle.epmd_client_rules.specs.Readings.{Reading, Reads, listed, Tells, none, several, only}
+use Rattle.epmd_client_rules.specs.Readings.{listed, Tells, none, several, only}
 use Rattle.epmd_client_rules.specs.Answers.{listingNumber}
 use Rattle.epmd_client_rules.specs.ReadingClaims.{ToldOnce, NoReading, TwoReadings, OneReading, ReadAs, ReadExactly}
 
