@@ -153,8 +153,15 @@ fn joined_names() {
 fn numbers_of_lines() {
     let calls = (0..=70).map(|lines| listed(&vec![long(); lines]));
     assert_eq!(times(&run(0, calls)), [1, 63, 1, 6, 0]);
-    let many = [100, 1000, 4000].map(|lines| listed(&vec![short("a"); lines]));
-    assert_eq!(times(&run(0, many)), [0, 0, 0, 2, 1]);
+    // Fifteen of these can be one line, whose name has 239 bytes: 960 are 64 lines in one way only.
+    let short = |pieces| times(&run(0, [listed(&vec![short("a"); pieces])]));
+    assert_eq!(short(2), [0, 0, 0, 0, 1]);
+    assert_eq!(short(64), [0, 0, 0, 0, 1]);
+    assert_eq!(short(65), [0, 0, 0, 0, 1]);
+    assert_eq!(short(959), [0, 0, 0, 0, 1]);
+    assert_eq!(short(960), [0, 0, 1, 0, 0]);
+    assert_eq!(short(961), [0, 0, 0, 1, 0]);
+    assert_eq!(short(4000), [0, 0, 0, 1, 0]);
 }
 
 /// `pieces` lines, all too long to join but for short ones at the places named.
@@ -169,7 +176,7 @@ fn mixed(pieces: usize, shorts: &[usize]) -> Call {
 /// Pieces that may be joined, near 64 of them: readings of more than 64 lines do not count.
 #[test]
 fn joined_near_64_lines() {
-    // One pair, at the beginning, inside and at the end: 64 lines of 64 or 63, 65 of which one is left.
+    // One pair, at the beginning, inside and at the end: 64 pieces are 64 lines or 63; 65 are 64 only.
     for pair in [[0, 1], [30, 31], [62, 63]] {
         let told = |pieces| times(&run(0, [mixed(pieces, &pair)]));
         assert_eq!(told(64), [0, 0, 0, 0, 1]);
@@ -186,12 +193,6 @@ fn joined_near_64_lines() {
     assert_eq!(row(65), [0, 0, 0, 0, 1]);
     assert_eq!(row(66), [0, 0, 1, 0, 0]);
     assert_eq!(row(67), [0, 0, 0, 1, 0]);
-    // Fifteen short ones in a row can be one line, whose name has 239 bytes.
-    let many: Vec<usize> = (0..15).collect();
-    let many = |pieces| times(&run(0, [mixed(pieces, &many)]));
-    assert_eq!(many(77), [0, 0, 0, 0, 1]);
-    assert_eq!(many(78), [0, 0, 1, 0, 0]);
-    assert_eq!(many(79), [0, 0, 0, 1, 0]);
 }
 
 /// Longer than any reply of 64 lines.
