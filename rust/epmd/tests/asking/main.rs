@@ -13,7 +13,7 @@ use std::process::Output;
 use std::sync::mpsc;
 use std::thread;
 
-use support::{birken_epmd, outcome, text};
+use support::{birken_epmd, outcome, text, PATIENCE};
 
 /// Asks a mapper once, which has to get this request.
 fn ask(words: &[&str], request: &[u8], mapper: impl FnOnce(TcpStream) + Send + 'static) -> Output {
@@ -30,7 +30,7 @@ fn ask(words: &[&str], request: &[u8], mapper: impl FnOnce(TcpStream) + Send + '
     let mut command = birken_epmd();
     command.args(["--address", "127.0.0.1", "--port", &port]);
     let output = outcome(command.args(words));
-    assert_eq!(told.recv().expect("a request"), request);
+    assert_eq!(told.recv_timeout(PATIENCE).expect("a request"), request);
     output
 }
 
