@@ -134,14 +134,13 @@ fn listing(case: &str, names: &[Vec<u8>]) {
     );
 }
 
-/// A reply of so many bytes with as many lines that could begin, each with as many ends, as found.
+/// A reply of so many bytes that takes longest of all that were tried: a line may begin at every
+/// "name " and end at every " at port 1", and hardly a name between them is plain ASCII, which is told
+/// faster.
 fn crowded(length: usize) -> Vec<u8> {
-    let unit = b"name name at port 1\n";
-    [0; 4]
-        .into_iter()
-        .chain(unit.iter().copied().cycle())
-        .take(length)
-        .collect()
+    let unit = format!("é{}", "name name at port 1\n".repeat(3));
+    let text = unit.bytes().cycle();
+    [0; 4].into_iter().chain(text).take(length).collect()
 }
 
 pub fn names() {
@@ -152,16 +151,16 @@ pub fn names() {
     listing("2 of 6 bytes, refused with 20", &names(2, short));
     listing("64 of 6 bytes, refused with 20", &names(64, short));
     listing("64 of 255 bytes", &names(64, long));
-    for part in [2, 4] {
-        let (whole, other) = (crowded(REGISTRY_OUTPUT), crowded(4 + 17_600 / part));
+    for length in [8_804, REGISTRY_OUTPUT] {
+        let (whole, half) = (crowded(length), crowded(4 + (length - 4) / 2));
         versus(
-            &format!("NAMES reply read, most candidates, {} bytes", whole.len()),
+            &format!("NAMES reply read, most candidates, {length} bytes"),
             &mut || {
                 black_box(client::read_names(black_box(&whole)).is_ok());
             },
-            &format!("the same of {} bytes", other.len()),
+            &format!("the same, {} bytes", half.len()),
             &mut || {
-                black_box(client::read_names(black_box(&other)).is_ok());
+                black_box(client::read_names(black_box(&half)).is_ok());
             },
         );
     }
