@@ -2,3 +2,4 @@
 // a registry: what a frame asks for is decided by its bytes and by the room for the reply alone.
 pub mod replies;
 pub mod requests;
+pub mod runs;

@@ -1,5 +1,6 @@
 // Requests (01, The mapper): which one a frame is, or why it is refused.
 use crate::replies::ROOM;
+use crate::runs::runs_end;
 use epmd_rules::refusal::Refusal;
 use epmd_rules::registration::Extra;
 use epmd_rules::registration::Registration;
@@ -30,7 +31,8 @@ const NLEN: usize = 9;
 
 const NAME: usize = 11;
 
-const LEAST: usize = NAME + 2;
+// "Elen at most 128 (house)".
+pub const EXTRA_MOST: usize = 128;
 
 // Tags 100, 107 and 115: DUMP, KILL and STOP.
 fn is_withheld(tag: u8) -> bool
@@ -46,7 +48,7 @@ fn is_withheld(tag: u8) -> bool
 }
 
 // "lowest ≤ highest, lowest ≤ 6, highest ≥ 5".
-fn versions_ok(highest: u16, lowest: u16) -> bool
+pub fn versions_ok(highest: u16, lowest: u16) -> bool
     ensures { λ r. ⌜ r ≡ versionsOk highest lowest ⌝ }
 {
     if highest < lowest {
@@ -62,20 +64,12 @@ fn examine_alive2(body: &[u8]) -> Request
     requires { ⌜ beAt 1 0 (now body) ≡ 120 ⌝ }
     ensures { λ r. ⌜ r ≡ examineBody (now (body .entry)) ⌝ }
 {
-    let n = body.len();
-    if n < LEAST {
+    if !runs_end(body, NLEN) {
         return Request::Refused(Refusal::BadLength);
     }
     let nlen = wire::get16(body, NLEN) as usize;
-    let at = NAME + nlen;
-    if n - 2 < at {
-        return Request::Refused(Refusal::BadLength);
-    }
-    let elen = wire::get16(body, at) as usize;
-    if n != at + 2 + elen {
-        return Request::Refused(Refusal::BadLength);
-    }
-    if 128 < elen {
+    let elen = wire::get16(body, NAME + nlen) as usize;
+    if EXTRA_MOST < elen {
         return Request::Refused(Refusal::BadLength);
     }
     if !names::is_node_name(wire::get_part(body, NAME, nlen)) {

@@ -29,7 +29,7 @@ use Rattle.epmd_rules.specs.Registry.{fresh, newOf, entryAt, byName, byC
 use Rattle.epmd_rules.specs.Requests.{lineRoom, examineOf}
 use Rattle.epmd_rules.specs.Replies.{port2Found, port2Reply, nameLines, lineOf, namesReply}
 use Rattle.epmd_rules.specs.Serve.{Outcome, resultOf, registrationOf, requestOf}
-use Rattle.epmd_rules.specs.Claims.{made, requested, closed, PlaceSound, RegistrySound, AlwaysSound, RegisteredFound, NamesFit}
+use Rattle.epmd_rules.specs.Claims.{made, requested, closed, NumbersHeld, PlaceSound, RegistrySound, AlwaysSound, RegisteredFound, NamesFit}
 use Rattle.epmd_rules.proofs.Calls.{step-within, After, same, more, after-request, filled-here, filled-other, Afterwards, none-freed, one-freed, after-close, without, free-is-free}
 use Rattle.epmd_rules.proofs.RequestLaws.{alive2-body, alive2-name-some, alive2-named}
 use Rattle.epmd_rules.proofs.ReplyLaws.{line-within}
@@ -75,9 +75,9 @@ free-name : length (nameBytes (free .name)) ≤ 255
 unfolding free nameOf nameBytes
 free-name = omega arith
 
-free-port : free .port ≤ 65535
+free-numbers : NumbersHeld free
 unfolding free
-free-port = omega arith
+free-numbers = record { port = omega arith; kind = omega arith; protocol = omega arith; highest = omega arith; lowest = omega arith }
 
 extra-back : (bs : List ℕ) → extraBytes (extraOf bs) ≡ bs
 unfolding extraOf extraBytes
@@ -105,7 +105,7 @@ place-free =
       name-padded = free-named;
       extra-held = free-extra;
       extra-padded = free-padded;
-      port-held = free-port;
+      numbers-held = free-numbers;
     }
 
 -- a place that is taken by one of two equal descriptions is not free
@@ -177,11 +177,19 @@ module _ (r : Registry) (c : ℕ) (frame : List ℕ) (given : ℕ) (a : examineO
   unfolding new registrationOf
   new-extra-padded = ap extraOf (sym (extra-back (runAt alive2Req 7 (body frame))))
 
-  new-port-held : Octets frame → new .port ≤ 65535
+  new-numbers : Octets frame → NumbersHeld new
   unfolding new registrationOf body
-  new-port-held o =
+  new-numbers o =
       let b = body frame in
-      omega (arith, beAt-fits b (octets-drop frame 2 o) 1 2 (omega (arith, alive2-body frame given a .whole)))
+      let w = alive2-body frame given a .whole in
+      let fits = beAt-fits b (octets-drop frame 2 o) in
+      record {
+        port = omega (arith, fits 1 2 (omega (arith, w)));
+        kind = omega (arith, fits 3 1 (omega (arith, w)));
+        protocol = omega (arith, fits 4 1 (omega (arith, w)));
+        highest = omega (arith, fits 5 2 (omega (arith, w)));
+        lowest = omega (arith, fits 7 2 (omega (arith, w)));
+      }
 
   new-creation : new .creation ≡ r .next
   unfolding new registrationOf
@@ -201,7 +209,7 @@ module _ (r : Registry) (c : ℕ) (frame : List ℕ) (given : ℕ) (a : examineO
         name-padded = new-padded;
         extra-held = omega (arith, ap length new-extra, alive2-body frame given a .extra);
         extra-padded = new-extra-padded;
-        port-held = new-port-held o;
+        numbers-held = new-numbers o;
       }
 
   module _ (s : RegistrySound r) (z : resultOf r c (runAt alive2Req 6 (body frame)) ≡ 0) where
@@ -390,6 +398,6 @@ names-fit r reach =
     omega (
       arith,
       lines-within (r .registrations)
-          (λ i m. let e = s .each i (omega (arith, s .places)) in line-within (entryAt r i) (e .name-held) (omega (arith, e .port-held))),
+          (λ i m. let e = s .each i (omega (arith, s .places)) in line-within (entryAt r i) (e .name-held) (omega (arith, e .numbers-held .port))),
       s .places,
     )

@@ -1,7 +1,7 @@
 -- What a body asks for, by the tests that code makes. Assumes nothing.
 use Prim.Native.Nat.{ℕ, _+_, _≤_, _<_}
 use mathlib.Core.Path.{_≡_, refl, sym, ap, _∙_}
-use mathlib.Core.Bool.{Bool, true, false, _&&_, _||_, not}
+use mathlib.Core.Bool.{Bool, true, false, _||_, not}
 use mathlib.Core.List.{List, [], _∷_}
 use native.Mathlib.Omega.{arith}
 use borrow.Author.Tests.{lt-leb, le-leb, leb-true, eq-eqb, ne-eqb, eqb-true}
@@ -9,18 +9,18 @@ use lib.ListN.{length, drop, length-drop}
 use lib.Dec.{eqb, leb}
 use Rattle.wire.specs.Number.{beAt}
 use Rattle.wire.specs.Frame.{isFrame, body}
-use Rattle.wire.specs.Layout.{extent, intAt, runAt}
-use Rattle.wire.proofs.RunLaws.{and-left, and-right, part-length}
+use Rattle.wire.specs.Layout.{extent, behind, intAt, runAt}
+use Rattle.wire.proofs.RunLaws.{part-length}
 use Rattle.wire.proofs.FrameLaws.{frame-told}
-use Rattle.names.specs.Utf8.{utf8}
-use Rattle.names.specs.Node.{lacks, nodeName}
+use Rattle.names.specs.Node.{nodeName}
+use Rattle.names.proofs.NodeLaws.{name-some, name-short}
 use Rattle.epmd_rules.specs.declared.refusal.Refusal.{Refusal}
 use Rattle.epmd_rules.specs.declared.refusal.Refusal.the-variants.{OutputTooShort, NotAFrame, UnknownTag, BadLength, BadName, BadVersions, NotServed}
 use Rattle.epmd_rules.specs.declared.request.Request.{Request}
 use Rattle.epmd_rules.specs.declared.request.Request.the-variants.{Refused, Alive2, PortPlease2, Names}
-use Rattle.epmd_rules.specs.Messages.{alive2Req}
+use Rattle.epmd_rules.specs.Messages.{alive2Req, portPlease2Req}
 use Rattle.epmd_rules.specs.Serve.{Alive2Body}
-use Rattle.epmd_rules.specs.Requests.{room, tag, byTag, isServed, isWithheld, lengthAgrees, nameAllowed, versionsOk, versionsAllowed, Check, _else_, firstRefusal, bodyChecks, examineBody, examineOf}
+use Rattle.epmd_rules.specs.Requests.{room, tag, byTag, isServed, isWithheld, lengthAgrees, extraOk, versionsOk, Check, _else_, firstRefusal, alive2Rules, portPlease2Rules, fieldChecks, bodyChecks, checks, examineBody, examineOf}
 
 -- ---- ALIVE2_REQ
 
@@ -37,7 +37,7 @@ module _ (b : List ℕ) (tag : beAt 1 0 b ≡ 120) where
   alive2-length h = rw (tag, ne-eqb (length b) (extent alive2Req b) h)
 
   module _ (whole : length b ≡ extent alive2Req b) where
-    extra-length : length (runAt alive2Req 7 b) ≡ elen b
+    pub extra-length : length (runAt alive2Req 7 b) ≡ elen b
     extra-length = part-length (11 + nlen b + 2) (elen b) b (omega arith)
 
     pub alive2-extra : 128 < elen b → examineBody b ≡ Refused BadLength
@@ -112,16 +112,23 @@ isAsked Alive2 = true
 isAsked PortPlease2 = true
 isAsked Names = true
 
-passes : (h : Bool) (n : Refusal) (cs : List Check) (q : Request) → isAsked (firstRefusal ((h else n) ∷ cs) q) ≡ true → (h ≡ true) × (isAsked (firstRefusal cs q) ≡ true)
+abbrev outcome : List (Check Refusal) → Request → Request
+outcome cs q = firstRefusal Refused cs q
+
+passes : (h : Bool) (n : Refusal) (cs : List (Check Refusal)) (q : Request) → isAsked (outcome ((h else n) ∷ cs) q) ≡ true → (h ≡ true) × (isAsked (outcome cs q) ≡ true)
 passes true n cs q e = (refl, e)
 passes false n cs q e = let z : _≡_ {A = ℕ} 0 1 = cc in absurd (omega arith)
+
+all-pass : (cs : List (Check Refusal)) (q : Request) → isAsked (outcome cs q) ≡ true → outcome cs q ≡ q
+all-pass [] q e = refl
+all-pass ((h else n) ∷ cs) q e = let p = passes h n cs q e in rw (p .0) (all-pass cs q (p .1))
 
 -- all tests held, and the request is the one of its tag
 pub record Passed (frame : List ℕ) (given : ℕ) : Type 0 where
   pub room-given : room ≤ given
   pub framed : isFrame frame ≡ true
   pub length-agrees : lengthAgrees (body frame) ≡ true
-  pub name-allowed : nameAllowed (body frame) ≡ true
+  pub fields : isAsked (outcome (fieldChecks (body frame)) (byTag (tag (body frame)) Alive2 PortPlease2 Names)) ≡ true
   pub kind : examineOf frame given ≡ byTag (tag (body frame)) Alive2 PortPlease2 Names
 
 passed : (frame : List ℕ) (given : ℕ) → isAsked (examineOf frame given) ≡ true → Passed frame given
@@ -129,23 +136,19 @@ unfolding examineOf
 passed frame given e =
     let b = body frame in
     let q : Request = byTag (tag b) Alive2 PortPlease2 Names in
-    let c7 : List Check = (versionsAllowed b else BadVersions) ∷ [] in
-    let c6 : List Check = (nameAllowed b else BadName) ∷ c7 in
-    let c5 : List Check = (lengthAgrees b else BadLength) ∷ c6 in
-    let c8 : List Check = (not (isWithheld (tag b)) else NotServed) ∷ c5 in
+    let c5 : List (Check Refusal) = (lengthAgrees b else BadLength) ∷ fieldChecks b in
+    let c8 : List (Check Refusal) = (not (isWithheld (tag b)) else NotServed) ∷ c5 in
     let p1 = passes (leb room given) OutputTooShort ((isFrame frame else NotAFrame) ∷ bodyChecks b) q e in
     let p3 = passes (isFrame frame) NotAFrame (bodyChecks b) q (p1 .1) in
     let p4 = passes (isServed (tag b) || isWithheld (tag b)) UnknownTag c8 q (p3 .1) in
     let p8 = passes (not (isWithheld (tag b))) NotServed c5 q (p4 .1) in
-    let p5 = passes (lengthAgrees b) BadLength c6 q (p8 .1) in
-    let p6 = passes (nameAllowed b) BadName c7 q (p5 .1) in
-    let p7 = passes (versionsAllowed b) BadVersions [] q (p6 .1) in
+    let p5 = passes (lengthAgrees b) BadLength (fieldChecks b) q (p8 .1) in
     record {
       room-given = leb-true room given (p1 .0);
       framed = p3 .0;
       length-agrees = p5 .0;
-      name-allowed = p6 .0;
-      kind = rw (p1 .0, p3 .0, p4 .0, p8 .0, p5 .0, p6 .0, p7 .0);
+      fields = p5 .1;
+      kind = all-pass (checks frame given) q e;
     }
 
 -- the request's kind tells the tag
@@ -162,22 +165,6 @@ tag-kind t q e = by (eqb t 120) refl (eqb t 122) refl where
       let k : Names ≡ q = sym (rw (f, g)) ∙ e in
       (λ h. let z : _≡_ {A = ℕ} 0 1 = cc in absurd (omega arith), λ h. let z : _≡_ {A = ℕ} 0 1 = cc in absurd (omega arith))
 
-node-some : (bs : List ℕ) → nodeName bs ≡ true → 1 ≤ length bs
-unfolding nodeName
-node-some bs e =
-    let a = leb 1 (length bs) in
-    let b = leb (length bs) 255 in
-    let c = a && b && utf8 bs in
-    leb-true 1 (length bs) (and-left a b (and-left (a && b) (utf8 bs) (and-left c (lacks 0 bs) (and-left (c && lacks 0 bs) (lacks 64 bs) e))))
-
-node-short : (bs : List ℕ) → nodeName bs ≡ true → length bs ≤ 255
-unfolding nodeName
-node-short bs e =
-    let a = leb 1 (length bs) in
-    let b = leb (length bs) 255 in
-    let c = a && b && utf8 bs in
-    leb-true (length bs) 255 (and-right a b (and-left (a && b) (utf8 bs) (and-left c (lacks 0 bs) (and-left (c && lacks 0 bs) (lacks 64 bs) e))))
-
 -- what is known at each request
 module _ (frame : List ℕ) (given : ℕ) (q : Request) (asked : isAsked q ≡ true) (e : examineOf frame given ≡ q) where
   pub request-passed : Passed frame given
@@ -189,24 +176,40 @@ module _ (frame : List ℕ) (given : ℕ) (q : Request) (asked : isAsked q ≡ t
       let f = frame-told frame (request-passed .framed) in
       (omega (arith, f .0), omega (arith, f .0, f .1, length-drop 2 frame))
 
+-- the rules of an ALIVE2 body's fields
+module _ (frame : List ℕ) (given : ℕ) (e : examineOf frame given ≡ Alive2) where
+  b : List ℕ
+  b = body frame
+
+  p : Passed frame given
+  p = request-passed frame given Alive2 refl e
+
+  alive2-tag : tag (body frame) ≡ 120
+  unfolding b p
+  alive2-tag = tag-kind (tag b) Alive2 (sym (p .kind) ∙ e) .0 refl
+
+  alive2-rules : isAsked (outcome (alive2Rules (intAt alive2Req 4 (body frame)) (intAt alive2Req 5 (body frame)) (runAt alive2Req 6 (body frame)) (runAt alive2Req 7 (body frame))) Alive2) ≡ true
+  unfolding b p
+  alive2-rules =
+      let rules : List (Check Refusal) = alive2Rules (intAt alive2Req 4 b) (intAt alive2Req 5 b) (runAt alive2Req 6 b) (runAt alive2Req 7 b) in
+      ap (λ (k : ℕ). isAsked (outcome (byTag k rules (portPlease2Rules (behind portPlease2Req b)) []) (byTag k Alive2 PortPlease2 Names))) (sym alive2-tag) ∙ p .fields
+
 pub alive2-named : (frame : List ℕ) (given : ℕ) → examineOf frame given ≡ Alive2 → nodeName (runAt alive2Req 6 (body frame)) ≡ true
 alive2-named frame given e =
-    let p = request-passed frame given Alive2 refl e in
     let b = body frame in
-    let t : tag b ≡ 120 = tag-kind (tag b) Alive2 (sym (p .kind) ∙ e) .0 refl in
-    ap (λ (k : ℕ). byTag k (nodeName (runAt alive2Req 6 b)) (nodeName (drop 1 b)) true) (sym t) ∙ p .name-allowed
+    let vs : List (Check Refusal) = (versionsOk (intAt alive2Req 4 b) (intAt alive2Req 5 b) else BadVersions) ∷ [] in
+    passes (nodeName (runAt alive2Req 6 b)) BadName vs Alive2 (passes (extraOk (runAt alive2Req 7 b)) BadLength ((nodeName (runAt alive2Req 6 b) else BadName) ∷ vs) Alive2 (alive2-rules frame given e) .1) .0
 
 pub alive2-name-some : (frame : List ℕ) (given : ℕ) → examineOf frame given ≡ Alive2 → 1 ≤ length (runAt alive2Req 6 (body frame))
-alive2-name-some frame given e = node-some (runAt alive2Req 6 (body frame)) (alive2-named frame given e)
+alive2-name-some frame given e = name-some (runAt alive2Req 6 (body frame)) (alive2-named frame given e)
 
 pub alive2-body : (frame : List ℕ) (given : ℕ) → examineOf frame given ≡ Alive2 → Alive2Body (body frame)
 alive2-body frame given e =
-    let p = request-passed frame given Alive2 refl e in
     let b = body frame in
-    let t : tag b ≡ 120 = tag-kind (tag b) Alive2 (sym (p .kind) ∙ e) .0 refl in
-    let l : eqb (length b) (extent alive2Req b) && leb (length (runAt alive2Req 7 b)) 128 ≡ true = ap (λ (k : ℕ). byTag k (eqb (length b) (extent alive2Req b) && leb (length (runAt alive2Req 7 b)) 128) true (eqb (length b) 1)) (sym t) ∙ p .length-agrees in
+    let l : eqb (length b) (extent alive2Req b) ≡ true = ap (λ (k : ℕ). byTag k (eqb (length b) (extent alive2Req b)) true (eqb (length b) 1)) (sym (alive2-tag frame given e)) ∙ request-passed frame given Alive2 refl e .length-agrees in
+    let x : extraOk (runAt alive2Req 7 b) ≡ true = passes (extraOk (runAt alive2Req 7 b)) BadLength ((nodeName (runAt alive2Req 6 b) else BadName) ∷ (versionsOk (intAt alive2Req 4 b) (intAt alive2Req 5 b) else BadVersions) ∷ []) Alive2 (alive2-rules frame given e) .0 in
     record {
-      whole = eqb-true (length b) (extent alive2Req b) (and-left (eqb (length b) (extent alive2Req b)) (leb (length (runAt alive2Req 7 b)) 128) l);
-      name = node-short (runAt alive2Req 6 b) (alive2-named frame given e);
-      extra = leb-true (length (runAt alive2Req 7 b)) 128 (and-right (eqb (length b) (extent alive2Req b)) (leb (length (runAt alive2Req 7 b)) 128) l);
+      whole = eqb-true (length b) (extent alive2Req b) l;
+      name = name-short (runAt alive2Req 6 b) (alive2-named frame given e);
+      extra = leb-true (length (runAt alive2Req 7 b)) 128 x;
     }

@@ -30,6 +30,14 @@ pub data Reachable : Registry → Type 0 where
   requested : (r : Registry) (connection : ℕ) (frame : List ℕ) (given : ℕ) → Octets frame → Reachable r → Reachable (requestOf r connection frame given .registry)
   closed : (r : Registry) (connection : ℕ) → Reachable r → Reachable (closeOf r connection .registry)
 
+-- the numbers of a place fit the fields that they are told in
+pub record NumbersHeld (p : Registration) : Type 0 where
+  pub port : p .port ≤ 65535
+  pub kind : p .kind ≤ 255
+  pub protocol : p .protocol ≤ 255
+  pub highest : p .highest ≤ 65535
+  pub lowest : p .lowest ≤ 65535
+
 -- a place: free and all zero, or taken with a node's name and under a creation that is not 0; zero behind its lengths
 pub record PlaceSound (p : Registration) : Type 0 where
   pub zero-if-free : isFree p ≡ true → p ≡ free
@@ -39,7 +47,7 @@ pub record PlaceSound (p : Registration) : Type 0 where
   pub name-padded : p .name ≡ nameOf (nameBytes (p .name))
   pub extra-held : length (extraBytes (p .extra)) ≤ 128
   pub extra-padded : p .extra ≡ extraOf (extraBytes (p .extra))
-  pub port-held : p .port ≤ 65535
+  pub numbers-held : NumbersHeld p
 
 -- no two registrations share a name or a connection, no creation is 0, the next creation is 1 to 4,294,967,295 and the own port 0 to 65,535
 pub record RegistrySound (r : Registry) : Type 0 where

@@ -1,0 +1,16 @@
+-- Every claim of specs/Claims, with its proof. Assumes nothing.
+use Rattle.epmd_client_rules.specs.Claims.{Promises}
+use Rattle.epmd_client_rules.proofs.Exactly.{refused-exactly}
+use Rattle.epmd_client_rules.proofs.Accepted.{request-accepted}
+use Rattle.epmd_client_rules.proofs.Back.{parts-lie}
+use Rattle.epmd_client_rules.proofs.Called.{reply-read, asked-and-read}
+
+pub promises : Promises
+promises =
+    record {
+      request-accepted = request-accepted;
+      reply-read = reply-read;
+      asked-and-read = asked-and-read;
+      parts-lie = parts-lie;
+      refused-exactly = refused-exactly;
+    }

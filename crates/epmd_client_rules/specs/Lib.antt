@@ -1,0 +1,6 @@
+pub mod Requests
+pub mod Decision
+pub mod Replies
+pub mod Readings
+pub mod Answers
+pub mod Claims
