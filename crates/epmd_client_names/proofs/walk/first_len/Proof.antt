@@ -1,0 +1,82 @@
+use Prim.Native.Nat.{ℕ, _+_, _-_, _≤_}
+use mathlib.Core.Path.{_≡_, sym, _∙_, subst}
+use native.Mathlib.Omega.{arith}
+use borrow.Author.Needs.{needs}
+use mathlib.Core.List.{List}
+use Rattle.epmd_client_rules.specs.Readings.{Line}
+use Rattle.epmd_client_names.specs.Survey.{FirstBelow}
+use Rattle.epmd_client_names.specs.Walk.{Lead}
+use Rattle.epmd_client_names.proofs.WalkLaws.{lead-start, lead-first, lead-turn, lead-end}
+use Rattle.epmd_client_names.proofs.walk.first_len.Statement.{statement}
+use Rattle.epmd_client_names.proofs.walk.first_len.Tie as tie
+use Rattle.epmd_client_names.proofs.walk.first_len.Reads as reads
+use Rattle.epmd_client_names.proofs.walk.first_len.Lts as lts
+use Rattle.epmd_client_names.proofs.survey.through.Reads as through-reads
+use Rattle.epmd_client_names.proofs.tally.leads.Reads as leads-reads
+
+abbrev Inv-loop : tie.InvT-loop
+Inv-loop s p k kinds few n₀ n = (1 ≤ n) × (n ≤ 256) × ((x : List Line) → Lead s p k x → FirstBelow n x → ⊥)
+
+abbrev μ-loop : tie.MeasureT-loop
+μ-loop s p k kinds few n₀ n = 256 - n
+
+loop-holds : tie.Need-loop-holds Inv-loop μ-loop
+loop-holds c =
+    let a = c .before .before .before .args in
+    (omega arith, omega arith, λ x l b. lead-start (a .s .now) (a .p) (a .k) x l b)
+
+through-requires : tie.Need-through-requires Inv-loop μ-loop
+through-requires c κs = record { begun = c .before .before .before .before .before .pre; high = search needs }
+
+leads-requires : tie.Need-leads-requires Inv-loop μ-loop
+leads-requires c κs = search needs
+
+returns : tie.Need-returns Inv-loop μ-loop
+returns c =
+    let a = c .before .before .before .before .before .before .before .before .args in
+    let t = c .before .before .through in
+    record {
+      is = λ x l. lead-first (a .s .now) (a .p) (a .k) (c .before .before .before .before .loop .n) (t .result) (t .ensures .means) x l (sym (c .before .leads .ensures) ∙ c .if1 .taken);
+      high = omega arith;
+    }
+
+add-n : tie.Need-add-n Inv-loop μ-loop
+add-n c = search needs
+
+loop-less : tie.Need-loop-less Inv-loop μ-loop
+loop-less c = search needs
+
+loop-again : tie.Need-loop-again Inv-loop μ-loop
+loop-again c =
+    let a = c .before .before .before .before .before .before .before .before .args in
+    let l = c .before .before .before .before .loop in
+    let t = c .before .before .through in (
+      omega arith,
+      omega arith,
+      λ x e b. lead-turn (a .s .now) (a .p) (a .k) (l .n) (t .result) (t .ensures .means) x e (sym (c .before .leads .ensures) ∙ c .if1 .left) (l .inv .2 x e) b,
+    )
+
+returns-2 : tie.Need-returns-2 Inv-loop μ-loop
+returns-2 c =
+    let a = c .before .before .before .before .before .args in
+    let l = c .before .loop in
+    let q : l .n ≡ 256 = omega arith in
+    record {
+      is = λ x e. absurd (lead-end (a .s .now) (a .p) (a .k) x (c .before .before .before .before .before .pre .place .inside) e (subst (λ (n : ℕ). FirstBelow n x → ⊥) q (l .inv .2 x e)));
+      high = omega arith;
+    }
+
+pub first-len-spec : {M : Type 1} → statement M
+first-len-spec =
+    tie.close
+    (tie.spec
+    Inv-loop
+    μ-loop
+    loop-holds
+    through-requires
+    leads-requires
+    returns
+    add-n
+    loop-less
+    loop-again
+    returns-2)
