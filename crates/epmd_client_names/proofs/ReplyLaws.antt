@@ -21,6 +21,7 @@ use Rattle.epmd_client_rules.specs.declared.reply.LineAt.{LineAt}
 use Rattle.epmd_client_rules.specs.declared.reply.NamesReply.{NamesReply}
 use Rattle.epmd_client_rules.specs.Readings.{Line, Reading, Reads, Tells, listed, notListed, most}
 use Rattle.epmd_client_rules.specs.Readings as readings
+use Rattle.epmd_client_names.specs.Text.{longest}
 use Rattle.epmd_client_names.specs.Tallies.{Least, Means, verdictOf}
 use Rattle.epmd_client_names.specs.Survey.{Lines}
 use Rattle.epmd_client_names.specs.Walk.{Lead, told, Walked}
@@ -132,8 +133,8 @@ module _ (own : ℕ) (small : own ≤ 65535) (s : List ℕ) where
       in
       subst (λ (r : NamesReply). Tells (be 4 own ++ s) r) e (z .tells)
 
--- a text of 64 lines is not longer than 17,600 bytes
-pub too-long : (s : List ℕ) → 17600 < length s → (x : List Line) → Lines s x → length x ≤ most → ⊥
+-- 64 lines have no more bytes
+pub too-long : (s : List ℕ) → longest < length s → (x : List Line) → Lines s x → length x ≤ most → ⊥
 too-long s h x r f = omega (arith, lines-short x (r .1), ap length (r .0))
 
 -- ---- the own port in the first four bytes

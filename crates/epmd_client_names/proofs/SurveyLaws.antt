@@ -14,6 +14,7 @@ use Rattle.wire.specs.Table.{tableBytes, Each}
 use Rattle.wire.proofs.RunLaws.{part-length}
 use Rattle.names.specs.Node.{nodeName}
 use Rattle.names.proofs.NodeLaws.{name-some, name-short}
+use Rattle.epmd_rules.specs.Requests.{lineRoom}
 use Rattle.epmd_rules.specs.Replies.{nameWord, lineWith}
 use Rattle.epmd_rules.proofs.ReplyLaws.{line-length, port-short}
 use Rattle.epmd_client_rules.specs.Readings.{Line, lineText, linesText, Allowed}
@@ -220,9 +221,9 @@ rows-set s p kinds few kind k hk hf r m j pj js = by (eqb j p) refl where
       let q : j ≡ p → ⊥ = eqb-false j p e in
       rw (getD-set-other kinds p j kind 0 q, getD-set-other few p j k 0 q) (r j (omega arith) js)
 
--- ---- a text of 64 lines is not longer than 17,600 bytes
+-- ---- how long the text of some lines is
 
-pub lines-short : (xs : List Line) → Each Allowed xs → length (linesText xs) ≤ 275 * length xs
+pub lines-short : (xs : List Line) → Each Allowed xs → length (linesText xs) ≤ lineRoom * length xs
 unfolding tableBytes Each
 lines-short [] a = omega arith
 lines-short (x ∷ xs) a =

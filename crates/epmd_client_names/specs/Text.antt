@@ -7,9 +7,15 @@ use lib.ListN.{length, getD}
 use lib.Dec.{ltb, leb, eqb}
 use Rattle.wire.specs.Run.{part, sameBytes}
 use Rattle.wire.specs.Decimal.{decimal}
+use Rattle.epmd_rules.specs.Requests.{lineRoom}
 use Rattle.epmd_rules.specs.Replies.{portWord}
+use Rattle.epmd_client_rules.specs.Readings.{most}
 use Rattle.epmd_client_names.specs.declared.text.Tail.{Tail}
 use Rattle.epmd_client_names.specs.declared.text.Tail.the-variants.{Missing, Found}
+
+-- the most bytes that 64 lines have
+abbrev pub longest : ℕ
+longest = most * lineRoom
 
 -- what follows the name in a line
 unfoldable pub tailText : ℕ → List ℕ
