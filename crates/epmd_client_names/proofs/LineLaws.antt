@@ -2,8 +2,8 @@
 -- start to the outer one's end. So the numbers of lines of a text's readings have no gap. Assumes nothing.
 use Prim.Native.Nat.{ℕ, zero, suc, _+_, _-_, _≤_, _<_}
 use mathlib.Core.Path.{_≡_, refl, sym, ap, _∙_}
-use mathlib.Core.List.{List, [], _∷_, _++_, append-assoc}
 use mathlib.Core.Bool.{Bool, true, false}
+use mathlib.Core.List.{List, [], _∷_, _++_, append-assoc}
 use native.Mathlib.Omega.{arith}
 use lib.ListN.{length, take, drop, getD, length-append, length-drop, List·getD-append}
 use lib.Seq.{drop-append-seam, drop-append-le, drop-drop, split-at, getD-drop}
@@ -47,11 +47,12 @@ inner port (suc (suc (suc (suc (suc (suc zero)))))) r a e f = omega arith
 inner port (suc (suc (suc (suc (suc (suc (suc zero))))))) r a e f = no-letter (decimal port) r a f
 inner port (suc (suc (suc (suc (suc (suc (suc (suc i)))))))) r a e f = no-space (decimal port) a i e
 
-module _ (s : List ℕ) (a b p q : ℕ) (r t : List ℕ) (small : p ≤ 65535) (ha : drop a s ≡ tailText p ++ r) (hb : drop b s ≡ tailText q ++ t) where
-  first-byte : getD s b 0 ≡ 32
-  unfolding tailText
-  first-byte = ap (λ (k : ℕ). getD s k 0) (omega arith) ∙ sym (getD-drop b s 0 0) ∙ ap (λ (l : List ℕ). getD l 0 0) hb
+-- the first byte of an end
+pub tail-space : (s : List ℕ) (b q : ℕ) (t : List ℕ) → drop b s ≡ tailText q ++ t → getD s b 0 ≡ 32
+unfolding tailText
+tail-space s b q t h = ap (λ (k : ℕ). getD s k 0) (omega arith) ∙ sym (getD-drop b s 0 0) ∙ ap (λ (l : List ℕ). getD l 0 0) h
 
+module _ (s : List ℕ) (a b p q : ℕ) (r t : List ℕ) (small : p ≤ 65535) (ha : drop a s ≡ tailText p ++ r) (hb : drop b s ≡ tailText q ++ t) where
   second-byte : getD s (b + 1) 0 ≡ 97
   unfolding tailText
   second-byte = sym (getD-drop b s 1 0) ∙ ap (λ (l : List ℕ). getD l 1 0) hb
@@ -62,7 +63,7 @@ module _ (s : List ℕ) (a b p q : ℕ) (r t : List ℕ) (small : p ≤ 65535) (
   overlap : (i : ℕ) → b ≡ a + suc i → suc i < length (tailText p) → ⊥
   overlap i e h =
       inner p i r (all-digits (decimal p) (decimal-text p (omega arith) .digit))
-      (sym (List·getD-append (tailText p) r 0 (suc i) h) ∙ sym (at-a (suc i)) ∙ ap (λ (k : ℕ). getD s k 0) (sym e) ∙ first-byte)
+      (sym (List·getD-append (tailText p) r 0 (suc i) h) ∙ sym (at-a (suc i)) ∙ ap (λ (k : ℕ). getD s k 0) (sym e) ∙ tail-space s b q t hb)
       (sym (at-a (suc (suc i))) ∙ ap (λ (k : ℕ). getD s k 0) (omega arith) ∙ second-byte)
 
   apart-by : (d : ℕ) → b ≡ a + suc d → (t : Bool) → ltb (suc d) (length (tailText p)) ≡ t → a + length (tailText p) ≤ b

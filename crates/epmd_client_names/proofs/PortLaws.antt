@@ -1,8 +1,8 @@
 -- What follows a name stands at a place exactly if the scan finds it there. Assumes nothing.
 use Prim.Native.Nat.{ℕ, zero, suc, _+_, _*_, _-_, _≤_, _<_}
 use mathlib.Core.Path.{_≡_, refl, sym, ap, _∙_}
-use mathlib.Core.List.{List, [], _∷_, _++_, append-assoc}
 use mathlib.Core.Bool.{Bool, true, false, cond}
+use mathlib.Core.List.{List, [], _∷_, _++_, append-assoc}
 use native.Mathlib.Numerals.{add-one}
 use native.Mathlib.Omega.{arith}
 use lib.ListN.{length, drop, getD, length-append, length-drop}
@@ -13,7 +13,6 @@ use Rattle.wire.specs.Decimal.{decimal, valueFrom, Text}
 use Rattle.wire.proofs.DecimalLaws.{decimal-text, decimal-only}
 use Rattle.epmd_rules.specs.Replies.{portWord}
 use Rattle.epmd_rules.proofs.ReplyLaws.{port-short}
-use Rattle.epmd_client_names.specs.declared.text.Tail.{Tail}
 use Rattle.epmd_client_names.specs.declared.text.Tail.the-variants.{Missing, Found}
 use Rattle.epmd_client_names.specs.Text.{tailText, hasAt, digitAt, closedAt, portFrom, portAt, tailAt}
 use Rattle.epmd_client_names.proofs.TextLaws.{has-true, has-of, from-stop, from-go, port-some}

@@ -1,13 +1,13 @@
 -- What a tally of all readings of a text says of those with at most 64 lines; and a reply's readings are those of its text, with the own port.
 -- Assumes nothing.
-use Prim.Native.Nat.{ℕ, zero, suc, _+_, _*_, _^_, _≤_, _<_}
+use Prim.Native.Nat.{ℕ, zero, suc, _≤_, _<_}
 use mathlib.Core.Path.{_≡_, refl, sym, ap, _∙_, subst}
-use mathlib.Core.List.{List, [], _∷_, _++_}
 use mathlib.Core.Bool.{Bool, true, false, cond}
+use mathlib.Core.List.{List, _++_}
 use native.Mathlib.Omega.{arith}
-use lib.ListN.{length, take, drop, length-append, take-append-drop}
+use lib.ListN.{length, take, drop, take-append-drop}
 use lib.Seq.{length-take-le}
-use lib.Dec.{ltb, leb, eqb}
+use lib.Dec.{ltb, leb}
 use borrow.Author.Tests.{ltb-true, ltb-false, leb-true, leb-false, ne-eqb}
 use Rattle.wire.specs.Run.{part}
 use Rattle.wire.specs.Number.{be, num, beAt}
@@ -19,8 +19,9 @@ use Rattle.epmd_client_rules.specs.declared.reply.Listing.{Listing}
 use Rattle.epmd_client_rules.specs.declared.reply.Listing.the-variants.{Listed, Refused}
 use Rattle.epmd_client_rules.specs.declared.reply.LineAt.{LineAt}
 use Rattle.epmd_client_rules.specs.declared.reply.NamesReply.{NamesReply}
+use Rattle.epmd_client_rules.specs.Readings.{Line, Reading, Reads, Tells, listed, notListed, most}
 use Rattle.epmd_client_rules.specs.Readings as readings
-use Rattle.epmd_client_rules.specs.Readings.{Line, linesText, Reading, Reads, Tells, listed, notListed, most}
+use Rattle.epmd_client_names.specs.Text.{longest}
 use Rattle.epmd_client_names.specs.Tallies.{Least, Means, verdictOf}
 use Rattle.epmd_client_names.specs.Survey.{Lines}
 use Rattle.epmd_client_names.specs.Walk.{Lead, told, Walked}
@@ -132,8 +133,8 @@ module _ (own : ℕ) (small : own ≤ 65535) (s : List ℕ) where
       in
       subst (λ (r : NamesReply). Tells (be 4 own ++ s) r) e (z .tells)
 
--- a text of 64 lines is not longer than 17,600 bytes
-pub too-long : (s : List ℕ) → 17600 < length s → (x : List Line) → Lines s x → length x ≤ most → ⊥
+-- 64 lines have no more bytes
+pub too-long : (s : List ℕ) → longest < length s → (x : List Line) → Lines s x → length x ≤ most → ⊥
 too-long s h x r f = omega (arith, lines-short x (r .1), ap length (r .0))
 
 -- ---- the own port in the first four bytes

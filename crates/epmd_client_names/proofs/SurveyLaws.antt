@@ -1,9 +1,9 @@
 -- The readings from a place on whose first name has n bytes, by what the scan finds; and the turns of the loops. Assumes nothing.
-use Prim.Native.Nat.{ℕ, zero, suc, _+_, _*_, _-_, _≤_, _<_}
+use Prim.Native.Nat.{ℕ, suc, _+_, _*_, _-_, _≤_, _<_}
 use mathlib.Core.Path.{_≡_, refl, sym, ap, _∙_, subst}
-use mathlib.Core.List.{List, [], _∷_, _++_, append-assoc}
+use mathlib.Core.Logic.{⊎-elim, inl, inr}
 use mathlib.Core.Bool.{Bool, true, false}
-use mathlib.Core.Logic.{⊎-elim, _⊎_, inl, inr}
+use mathlib.Core.List.{List, [], _∷_, _++_, append-assoc}
 use native.Mathlib.Omega.{arith}
 use lib.ListN.{length, take, drop, getD, set, length-append, length-set, take-append-drop}
 use lib.Seq.{take-at, drop-drop, getD-set-same, getD-set-other, drop-length}
@@ -14,19 +14,19 @@ use Rattle.wire.specs.Table.{tableBytes, Each}
 use Rattle.wire.proofs.RunLaws.{part-length}
 use Rattle.names.specs.Node.{nodeName}
 use Rattle.names.proofs.NodeLaws.{name-some, name-short}
+use Rattle.epmd_rules.specs.Requests.{lineRoom}
 use Rattle.epmd_rules.specs.Replies.{nameWord, lineWith}
 use Rattle.epmd_rules.proofs.ReplyLaws.{line-length, port-short}
 use Rattle.epmd_client_rules.specs.Readings.{Line, lineText, linesText, Allowed}
-use Rattle.epmd_client_names.specs.declared.text.Tail.{Tail}
 use Rattle.epmd_client_names.specs.declared.text.Tail.the-variants.{Missing, Found}
 use Rattle.epmd_client_names.specs.declared.tally.Tally.{Tally}
-use Rattle.epmd_client_names.specs.Text.{tailText, hasAt, tailAt}
+use Rattle.epmd_client_names.specs.Text.{tailText, hasAt, tailAt, NameEnds}
 use Rattle.epmd_client_names.specs.Tallies.{Set, Means, joinOf}
-use Rattle.epmd_client_names.specs.Survey.{Lines, FirstIs, FirstBelow, Exact, Below, Tallied, Rows, Room}
+use Rattle.epmd_client_names.specs.Survey.{Lines, Exact, Below, Tallied, Rows, Room}
 use Rattle.epmd_client_names.proofs.TextLaws.{has-true, has-of}
 use Rattle.epmd_client_names.proofs.PortLaws.{TailHere, tail-length, tail-complete, tail-sound}
 use Rattle.epmd_client_names.proofs.TallyLaws.{same, Or, joined, join-lines, later}
-use Rattle.epmd_client_names.proofs.LineLaws.{Stands, uncons, cons, line-long, behind-word, at-tail, word, beyond, ended}
+use Rattle.epmd_client_names.proofs.LineLaws.{Stands, uncons, cons, line-long, tail-space, behind-word, at-tail, word, beyond, ended}
 
 -- ---- a first line whose name has n bytes
 
@@ -156,6 +156,24 @@ module _ (s : List ℕ) (p : ℕ) where
         short = omega (arith, join-lines (length s - p) a b (omega (arith, m .short)) (omega (arith, w .short)));
       }
 
+  -- no name ends where no space follows it
+  pub skip : (n m : ℕ) → p ≤ length s → NameEnds s (p + 5) n m → (xs : List Line) → Below s p m xs → Below s p n xs
+  skip n m h f [] e = absurd (e .1)
+  skip n m h f (x ∷ xs) e = by (ltb (length (x .name)) n) refl where
+    by : (t : Bool) → ltb (length (x .name)) n ≡ t → Below s p n (x ∷ xs)
+    by true g = (e .0, ltb-true (length (x .name)) n g)
+    by false g =
+        let u : (q : ℕ) × Stands s p x q × Lines (drop q s) xs = uncons s p x xs h (e .0) in
+        absurd
+        (f .none (length (x .name)) (ltb-false (length (x .name)) n g) (e .1)
+        (tail-space s (p + 5 + length (x .name)) (x .port) (drop (u .0) s) (at-tail s p x (u .0) (u .1))))
+
+  pub skipped : (n m : ℕ) → p ≤ length s → NameEnds s (p + 5) n m → (kind k : ℕ) → Tallied (Below s p n) s p kind k → Tallied (Below s p m) s p kind k
+  skipped n m h f kind k w = record { means = same (Below s p n) (Below s p m) more (skip n m h f) kind k (w .means); short = w .short } where
+    more : (xs : List Line) → Below s p n xs → Below s p m xs
+    more [] e = absurd (e .1)
+    more (x ∷ xs) e = (e .0, omega (arith, e .1, f .low))
+
   pub all-below : p < length s → (xs : List Line) → Lines (drop p s) xs → Below s p 256 xs
   unfolding Each
   all-below h [] r = absurd (omega (arith, ended s p r))
@@ -203,9 +221,9 @@ rows-set s p kinds few kind k hk hf r m j pj js = by (eqb j p) refl where
       let q : j ≡ p → ⊥ = eqb-false j p e in
       rw (getD-set-other kinds p j kind 0 q, getD-set-other few p j k 0 q) (r j (omega arith) js)
 
--- ---- a text of 64 lines is not longer than 17,600 bytes
+-- ---- how long the text of some lines is
 
-pub lines-short : (xs : List Line) → Each Allowed xs → length (linesText xs) ≤ 275 * length xs
+pub lines-short : (xs : List Line) → Each Allowed xs → length (linesText xs) ≤ lineRoom * length xs
 unfolding tableBytes Each
 lines-short [] a = omega arith
 lines-short (x ∷ xs) a =

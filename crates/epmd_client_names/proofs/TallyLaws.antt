@@ -1,16 +1,16 @@
 -- Laws of tallies: of a union, of one more line. Assumes nothing.
-use Prim.Native.Nat.{ℕ, zero, suc, _+_, _≤_, _<_}
+use Prim.Native.Nat.{ℕ, zero, suc, _≤_, _<_}
 use mathlib.Core.Path.{_≡_, refl, sym, ap, _∙_, subst}
-use mathlib.Core.List.{List, [], _∷_}
-use mathlib.Core.Bool.{Bool, true, false, cond}
 use mathlib.Core.Logic.{⊎-elim, _⊎_, inl, inr}
+use mathlib.Core.Bool.{Bool, true, false, cond}
+use mathlib.Core.List.{List, _∷_}
 use native.Mathlib.Omega.{arith}
 use lib.ListN.{length}
 use lib.Dec.{ltb, leb, eqb}
 use borrow.Author.Tests.{ltb-true, ltb-false, leb-true, leb-false, eqb-true, eqb-false, eq-eqb, ne-eqb, lt-ltb, le-ltb}
 use Rattle.epmd_client_rules.specs.Readings.{Line}
 use Rattle.epmd_client_names.specs.declared.tally.Tally.{Tally}
-use Rattle.epmd_client_names.specs.Tallies.{Set, One, Least, Several, Means, beatenOf, joinOf}
+use Rattle.epmd_client_names.specs.Tallies.{Set, Means, beatenOf, joinOf}
 
 -- the same readings, the same tally
 pub same : (P Q : Set) → ((x : List Line) → P x → Q x) → ((x : List Line) → Q x → P x) → (n k : ℕ) → Means P n k → Means Q n k

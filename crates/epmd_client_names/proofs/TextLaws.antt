@@ -1,19 +1,18 @@
 -- Laws of the scan as code does it: words, digits, ports. Assumes nothing.
 use Prim.Native.Nat.{ℕ, zero, suc, _+_, _*_, _-_, _≤_, _<_}
 use mathlib.Core.Path.{_≡_, refl, sym, ap, _∙_}
-use mathlib.Core.List.{List, [], _∷_, _++_}
-use mathlib.Core.Bool.{Bool, true, false, cond}
+use mathlib.Core.Bool.{Bool, true, false}
+use mathlib.Core.List.{List, _++_}
 use native.Mathlib.Omega.{arith}
-use lib.ListN.{length, take, drop, getD, length-drop, length-take, take-append-drop}
-use lib.Seq.{take-at, drop-drop, getD-drop}
-use lib.Dec.{ltb, leb, eqb}
-use borrow.Author.Tests.{eq-eqb, ne-eqb, lt-ltb, le-ltb}
-use Rattle.wire.specs.Run.{part, sameBytes}
+use lib.ListN.{length, take, drop, getD, length-append, length-drop, length-take, take-append-drop, List·getD-eq-default}
+use lib.Seq.{take-at, drop-drop}
+use lib.Dec.{ltb, eqb}
+use borrow.Author.Tests.{ltb-true, ltb-false, eqb-true, eqb-false, eq-eqb, ne-eqb, lt-ltb, le-ltb}
+use Rattle.wire.specs.Run.{part}
 use Rattle.wire.proofs.RunLaws.{same-decides, same-length-ne}
 use Rattle.epmd_rules.specs.Replies.{portWord}
-use Rattle.epmd_client_names.specs.declared.text.Tail.{Tail}
-use Rattle.epmd_client_names.specs.declared.text.Tail.the-variants.{Missing, Found}
-use Rattle.epmd_client_names.specs.Text.{hasAt, digitAt, closedAt, portFrom, portAt, tailAt}
+use Rattle.epmd_client_names.specs.declared.text.Tail.the-variants.{Missing}
+use Rattle.epmd_client_names.specs.Text.{hasAt, digitAt, closedAt, portFrom, portAt, tailAt, NameEnds}
 
 -- ---- words
 
@@ -32,14 +31,8 @@ pub has-short : (s : List ℕ) (at : ℕ) (w : List ℕ) → at ≤ length s →
 unfolding hasAt part
 has-short s at w h l = same-length-ne (take (length w) (drop at s)) w (λ e. omega (arith, e, length-take (length w) (drop at s), length-drop at s))
 
--- another first byte than the word's
-pub has-other : (s : List ℕ) (at a : ℕ) (w : List ℕ) → (getD s at 0 ≡ a → ⊥) → hasAt s at (a ∷ w) ≡ false
-has-other s at a w h = by (hasAt s at (a ∷ w)) refl where
-  by : (t : Bool) → hasAt s at (a ∷ w) ≡ t → hasAt s at (a ∷ w) ≡ false
-  by true e =
-      let n : at + 0 ≡ at = omega arith in
-      absurd (h (ap (λ (k : ℕ). getD s k 0) (sym n) ∙ sym (getD-drop at s 0 0) ∙ ap (λ (l : List ℕ). getD l 0 0) (has-true s at (a ∷ w) e)))
-  by false e = e
+pub has-inside : (s : List ℕ) (at : ℕ) (w : List ℕ) → at ≤ length s → hasAt s at w ≡ true → at + length w ≤ length s
+has-inside s at w h e = omega (arith, ap length (has-true s at w e), length-append w (drop (at + length w) s), length-drop at s)
 
 -- ---- ports
 
@@ -83,3 +76,18 @@ tail-on s q h = rw h
 pub tail-off : (s : List ℕ) (q : ℕ) → hasAt s q portWord ≡ false → tailAt s q ≡ Missing
 unfolding tailAt
 tail-off s q h = rw h
+
+-- ---- where a name may end
+
+module _ (s : List ℕ) (from n k : ℕ) (f : NameEnds s from n k) where
+  pub ends-more : k < 256 → (getD s (from + k) 0 ≡ 32 → ⊥) → NameEnds s from n (k + 1)
+  ends-more h g = record { low = omega (arith, f .low); high = omega arith; none = λ j l m e. by j l m e (eqb j k) refl } where
+    by : (j : ℕ) → n ≤ j → j < k + 1 → getD s (from + j) 0 ≡ 32 → (t : Bool) → eqb j k ≡ t → ⊥
+    by j l m e true q = g (ap (λ (i : ℕ). getD s (from + i) 0) (sym (eqb-true j k q)) ∙ e)
+    by j l m e false q = f .none j l (omega (arith, eqb-false j k q)) e
+
+  pub ends-short : length s ≤ from + k → NameEnds s from n 256
+  ends-short h = record { low = omega (arith, f .low, f .high); high = omega arith; none = λ j l m e. by j l e (ltb j k) refl } where
+    by : (j : ℕ) → n ≤ j → getD s (from + j) 0 ≡ 32 → (t : Bool) → ltb j k ≡ t → ⊥
+    by j l e true q = f .none j l (ltb-true j k q) e
+    by j l e false q = omega (arith, e, List·getD-eq-default s 0 {n = from + j} (omega (arith, ltb-false j k q)))

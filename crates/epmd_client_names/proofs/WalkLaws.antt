@@ -1,21 +1,22 @@
 -- The one reading with the fewest lines, line by line. Assumes nothing.
-use Prim.Native.Nat.{ℕ, zero, suc, _+_, _-_, _≤_, _<_}
+use Prim.Native.Nat.{ℕ, suc, _+_, _-_, _≤_, _<_}
 use mathlib.Core.Path.{_≡_, refl, sym, ap, _∙_, subst}
-use mathlib.Core.List.{List, [], _∷_, _++_, append-assoc, append-nil}
-use mathlib.Core.Bool.{Bool, true, false, cond}
 use mathlib.Core.Logic.{⊎-elim}
+use mathlib.Core.Bool.{Bool, true, false, cond}
+use mathlib.Core.List.{List, [], _∷_, _++_, append-assoc, append-nil}
 use native.Mathlib.Omega.{arith}
 use lib.ListN.{length, drop, set, replicate, length-append}
 use lib.Seq.{set-at}
 use lib.Dec.{eqb}
 use borrow.Author.Tests.{eqb-true, eqb-false}
 use Rattle.wire.specs.Table.{tableBytes}
+use Rattle.wire.proofs.TableLaws.{bytes-append}
 use Rattle.epmd_rules.specs.Replies.{nameWord}
 use Rattle.epmd_client_rules.specs.declared.reply.LineAt.{LineAt}
 use Rattle.epmd_client_rules.specs.Readings.{Line, lineText, linesText, linesAt, noLine, most}
 use Rattle.epmd_client_names.specs.declared.text.Tail.the-variants.{Found}
 use Rattle.epmd_client_names.specs.declared.tally.Tally.{Tally}
-use Rattle.epmd_client_names.specs.Text.{hasAt, tailAt}
+use Rattle.epmd_client_names.specs.Text.{hasAt, tailAt, NameEnds}
 use Rattle.epmd_client_names.specs.Tallies.{Means, leadsOf}
 use Rattle.epmd_client_names.specs.Survey.{Lines, FirstIs, FirstBelow, Exact}
 use Rattle.epmd_client_names.specs.Walk.{Lead, told}
@@ -23,7 +24,7 @@ use Rattle.epmd_client_names.proofs.TextLaws.{has-of}
 use Rattle.epmd_client_names.proofs.PortLaws.{tail-length}
 use Rattle.epmd_client_names.proofs.TallyLaws.{Fewest, fewest, nothing}
 use Rattle.epmd_client_names.proofs.LineLaws.{Stands, uncons, cons, line-long, word, beyond}
-use Rattle.epmd_client_names.proofs.SurveyLaws.{First, first, below-one, below-split, all-below}
+use Rattle.epmd_client_names.proofs.SurveyLaws.{First, first, below-one, below-split, skip, all-below}
 
 -- ---- the length of its first name: the one whose tally has as few lines
 
@@ -48,11 +49,14 @@ module _ (s : List ℕ) (p k n : ℕ) (t : Tally) (m : Means (Exact s p n) (t .k
         let q : y .0 ≡ x = l .only (y .0) (y .1 .0) (omega (arith, y .2, l .lines)) in
         eqb-false (t .lines) k g (omega (arith, y .2, ap length q, l .lines))
 
-  pub lead-turn : leadsOf t k ≡ false → (FirstBelow n x → ⊥) → FirstBelow (n + 1) x → ⊥
+  lead-turn : leadsOf t k ≡ false → (FirstBelow n x → ⊥) → FirstBelow (n + 1) x → ⊥
   lead-turn h f b = ⊎-elim (λ e. f (e .1)) (λ e. lead-not h (e .1)) (below-split s p n x (l .reads, b))
 
-pub lead-start : (s : List ℕ) (p k : ℕ) (x : List Line) → Lead s p k x → FirstBelow 1 x → ⊥
-lead-start s p k x l b = below-one s p x (l .reads, b)
+  pub lead-next : (m : ℕ) → p ≤ length s → NameEnds s (p + 5) (n + 1) m → leadsOf t k ≡ false → (FirstBelow n x → ⊥) → FirstBelow m x → ⊥
+  lead-next m h e q f b = lead-turn q f (skip s p (n + 1) m h e x (l .reads, b) .1)
+
+pub lead-start : (s : List ℕ) (p k m : ℕ) → p ≤ length s → NameEnds s (p + 5) 1 m → (x : List Line) → Lead s p k x → FirstBelow m x → ⊥
+lead-start s p k m h e x l b = below-one s p x (skip s p 1 m h e x (l .reads, b))
 
 pub lead-end : (s : List ℕ) (p k : ℕ) (x : List Line) → p < length s → Lead s p k x → (FirstBelow 256 x → ⊥) → ⊥
 lead-end s p k x h l f = f (all-below s p h x (l .reads) .1)
@@ -121,8 +125,8 @@ places-more at (x ∷ xs) z =
 
 text-more : (xs : List Line) (z : Line) → length (linesText (xs ++ (z ∷ []))) ≡ length (linesText xs) + length (lineText z)
 unfolding tableBytes
-text-more [] z = omega (arith, length-append (lineText z) [])
-text-more (x ∷ xs) z = omega (arith, length-append (lineText x) (linesText xs), length-append (lineText x) (linesText (xs ++ (z ∷ []))), text-more xs z)
+text-more xs z =
+    ap length (bytes-append lineText xs (z ∷ [])) ∙ omega (arith, length-append (linesText xs) (lineText z ++ []), length-append (lineText z) [])
 
 -- ---- the walk so far: i lines are told, and those from p on are left
 

@@ -6,8 +6,8 @@ use mathlib.Core.List.{List, [], _∷_}
 use lib.ListN.{length, drop, getD}
 use Rattle.wire.specs.Table.{Each}
 use Rattle.epmd_rules.specs.Replies.{nameWord}
-use Rattle.epmd_client_rules.specs.Readings.{Line, linesText, Allowed}
-use Rattle.epmd_client_names.specs.Text.{hasAt}
+use Rattle.epmd_client_rules.specs.Readings.{linesText, Allowed}
+use Rattle.epmd_client_names.specs.Text.{longest, hasAt}
 use Rattle.epmd_client_names.specs.Tallies.{Set, Means}
 
 -- the lines xs, of any number, are a reading of the text s
@@ -41,7 +41,7 @@ Rows s p kinds few = (j : ℕ) → p ≤ j → j ≤ length s → Tallied (Lines
 
 -- they are long enough
 pub record Room (s kinds few : List ℕ) : Type 0 where
-  pub fits : length s ≤ 17600
+  pub fits : length s ≤ longest
   pub kindsLong : length s < length kinds
   pub fewLong : length s < length few
 

@@ -1,14 +1,14 @@
 -- What is kept of a set of readings of a text: its kind, and the fewest lines that one of them has.
 use Prim.Native.Nat.{ℕ, zero, suc, _≤_, _<_}
 use mathlib.Core.Path.{_≡_}
-use mathlib.Core.Bool.{Bool, true, false, cond}
+use mathlib.Core.Bool.{Bool, false, cond}
 use mathlib.Core.List.{List}
 use lib.ListN.{length}
 use lib.Dec.{ltb, eqb}
-use Rattle.epmd_client_rules.specs.Readings.{Line, most}
 use Rattle.epmd_client_rules.specs.declared.unreadable.Unreadable.the-variants.{WrongLength, Ambiguous}
 use Rattle.epmd_client_rules.specs.declared.reply.Listing.{Listing}
 use Rattle.epmd_client_rules.specs.declared.reply.Listing.the-variants.{Listed, Refused}
+use Rattle.epmd_client_rules.specs.Readings.{Line, most}
 use Rattle.epmd_client_names.specs.declared.tally.Tally.{Tally}
 
 -- a set of readings

@@ -1,14 +1,21 @@
 -- What the code finds at a place of a text: a word, a digit, a port, the end of a line.
-use Prim.Native.Nat.{ℕ, zero, suc, _+_, _*_, _-_}
+use Prim.Native.Nat.{ℕ, zero, suc, _+_, _*_, _-_, _≤_, _<_}
+use mathlib.Core.Path.{_≡_}
 use mathlib.Core.Bool.{Bool, cond}
 use mathlib.Core.List.{List, [], _∷_, _++_}
 use lib.ListN.{length, getD}
 use lib.Dec.{ltb, leb, eqb}
 use Rattle.wire.specs.Run.{part, sameBytes}
 use Rattle.wire.specs.Decimal.{decimal}
+use Rattle.epmd_rules.specs.Requests.{lineRoom}
 use Rattle.epmd_rules.specs.Replies.{portWord}
+use Rattle.epmd_client_rules.specs.Readings.{most}
 use Rattle.epmd_client_names.specs.declared.text.Tail.{Tail}
 use Rattle.epmd_client_names.specs.declared.text.Tail.the-variants.{Missing, Found}
+
+-- the most bytes that 64 lines have
+abbrev pub longest : ℕ
+longest = most * lineRoom
 
 -- what follows the name in a line
 unfoldable pub tailText : ℕ → List ℕ
@@ -39,3 +46,9 @@ portAt s i = cond (ltb 9 (digitAt s i)) Missing (portFrom 4 s (i + 1) (digitAt s
 -- what follows a name, at a place: the port, and where the next line begins
 unfoldable pub tailAt : List ℕ → ℕ → Tail
 tailAt s q = cond (hasAt s q portWord) (portAt s (q + 9)) Missing
+
+-- r is the first length from n on at which a name from a place may end, since a space follows it, or 256
+pub record NameEnds (s : List ℕ) (from n r : ℕ) : Type 0 where
+  pub low : n ≤ r
+  pub high : r ≤ 256
+  pub none : (j : ℕ) → n ≤ j → j < r → getD s (from + j) 0 ≡ 32 → ⊥

@@ -3,8 +3,8 @@ use Prim.Native.Nat.{ℕ, _-_, _≤_}
 use mathlib.Core.Path.{_≡_}
 use mathlib.Core.List.{List, _++_}
 use lib.ListN.{length, drop, replicate}
-use Rattle.epmd_client_rules.specs.Readings.{Line, linesAt, noLine, most}
 use Rattle.epmd_client_rules.specs.declared.reply.LineAt.{LineAt}
+use Rattle.epmd_client_rules.specs.Readings.{Line, linesAt, noLine, most}
 use Rattle.epmd_client_names.specs.Survey.{Lines, FirstIs, Rows, Room}
 
 -- from p on, the only reading with k lines or fewer

@@ -9,7 +9,7 @@ ghost use mathlib.Core.List.{_++_};
 ghost use Rattle.wire.specs.Number.{be};
 ghost use Rattle.epmd_client_rules.specs.Readings.{notListed, Tells};
 
-// The most bytes that 64 lines have: 5 and 9 for the words, 255 for a name, 5 for a port, a newline.
+// The most bytes that 64 lines have, of 275 bytes each.
 const MOST: usize = 17600;
 
 fn refused(why: Unreadable) -> NamesReply

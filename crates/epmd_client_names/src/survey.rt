@@ -2,6 +2,7 @@
 use crate::tally::NONE;
 use crate::tally::ONE;
 use crate::tally::Tally;
+use crate::text::NAME_WORD;
 use crate::text::Tail;
 ghost use lib.ListN.{drop};
 ghost use Rattle.epmd_client_names.specs.Survey.{Lines, Exact, Tallied, Rows, Room, Place, Begun, Through};
@@ -11,7 +12,7 @@ pub(crate) fn through(s: &[u8], p: usize, n: usize, kinds: &[u8], few: &[u16]) -
     requires { ⌜ Through (now s) p n (now kinds) (now few) ⌝ }
     ensures { λ r. ⌜ Tallied (Exact (now (s .entry)) p n) (now (s .entry)) p (r .kind) (r .lines) ⌝ }
 {
-    let from = p + 5;
+    let from = p + NAME_WORD;
     let q = from + n;
     if s.len() <= q {
         return Tally {
@@ -49,10 +50,11 @@ fn every(s: &[u8], p: usize, kinds: &[u8], few: &[u16]) -> Tally
         kind: NONE,
         lines: 0,
     };
-    let mut n: usize = 1;
+    let from = p + NAME_WORD;
+    let mut n = crate::text::name_end(s, from, 1);
     while n < 256 {
         acc = crate::tally::join(acc, through(s, p, n, kinds, few));
-        n += 1;
+        n = crate::text::name_end(s, from, n + 1);
     }
     acc
 }

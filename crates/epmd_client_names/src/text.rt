@@ -1,8 +1,13 @@
 // What stands at a place of a text: a word, a port, the end of a line.
 ghost use mathlib.Core.Path.{_≡_};
-ghost use Prim.Native.Nat.{_≤_};
+ghost use Prim.Native.Nat.{_+_, _≤_};
 ghost use lib.ListN.{length};
-ghost use Rattle.epmd_client_names.specs.Text.{hasAt, digitAt, closedAt, portAt, tailAt};
+ghost use Rattle.epmd_client_names.specs.Text.{longest, hasAt, digitAt, closedAt, portAt, tailAt, NameEnds};
+
+// How many bytes stand before a name, `name `, and between it and the port, ` at port `.
+pub(crate) const NAME_WORD: usize = 5;
+
+const PORT_WORD: usize = 9;
 
 // What follows a name: ` at port `, the port and a newline, with the place behind them.
 pub enum Tail {
@@ -61,7 +66,7 @@ fn closed(s: &[u8], i: usize, v: u32) -> Tail
 
 // A port of up to five digits without a leading zero, and a newline.
 fn port_at(s: &[u8], i: usize) -> Tail
-    requires { ⌜ (i ≤ length (now s)) × (length (now s) ≤ 17600) ⌝ }
+    requires { ⌜ (i ≤ length (now s)) × (length (now s) ≤ longest) ⌝ }
     ensures { λ r. ⌜ r ≡ portAt (now (s .entry)) i ⌝ }
 {
     let mut v = digit_at(s, i);
@@ -88,20 +93,33 @@ fn port_at(s: &[u8], i: usize) -> Tail
     closed(s, j, v)
 }
 
+// What follows a name, at a place.
 pub(crate) fn tail_at(s: &[u8], q: usize) -> Tail
-    requires { ⌜ (q ≤ length (now s)) × (length (now s) ≤ 17600) ⌝ }
+    requires { ⌜ (q ≤ length (now s)) × (length (now s) ≤ longest) ⌝ }
     ensures { λ r. ⌜ r ≡ tailAt (now (s .entry)) q ⌝ }
 {
-    if s.len() - q < 9 {
-        return Tail::Missing;
-    }
-    // most places end here
-    if s[q] != 32 {
-        return Tail::Missing;
-    }
     if has(s, q, b" at port ") {
-        port_at(s, q + 9)
+        port_at(s, q + PORT_WORD)
     } else {
         Tail::Missing
     }
+}
+
+// The first length from n on at which a name from a place may end, since a space follows it, or 256.
+pub(crate) fn name_end(s: &[u8], from: usize, n: usize) -> usize
+    requires { ⌜ (from ≤ longest + 5) × (n ≤ 256) ⌝ }
+    ensures { λ r. ⌜ NameEnds (now (s .entry)) from n r ⌝ }
+{
+    let mut k = n;
+    while k < 256 {
+        let q = from + k;
+        if s.len() <= q {
+            return 256;
+        }
+        if s[q] == 32 {
+            return k;
+        }
+        k += 1;
+    }
+    k
 }

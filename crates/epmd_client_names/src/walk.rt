@@ -1,4 +1,5 @@
 // The lines of the one reading with the fewest lines, from the text's start to its end.
+use crate::text::NAME_WORD;
 use crate::text::Tail;
 use epmd_client_rules::reply::LineAt;
 ghost use Rattle.epmd_client_names.specs.Survey.{Begun};
@@ -9,12 +10,13 @@ fn first_len(s: &[u8], p: usize, k: u16, kinds: &[u8], few: &[u16]) -> usize
     requires { ⌜ Begun (now s) p (now kinds) (now few) ⌝ }
     ensures { λ r. ⌜ FirstLen (now (s .entry)) p k r ⌝ }
 {
-    let mut n: usize = 1;
+    let from = p + NAME_WORD;
+    let mut n = crate::text::name_end(s, from, 1);
     while n < 256 {
         if crate::tally::leads(crate::survey::through(s, p, n, kinds, few), k) {
             return n;
         }
-        n += 1;
+        n = crate::text::name_end(s, from, n + 1);
     }
     0
 }
@@ -33,7 +35,7 @@ pub(crate) fn walk(s: &[u8], kinds: &[u8], few: &[u16], count: u16) -> [LineAt; 
     let mut i: u16 = 0;
     while i < count {
         let n = first_len(s, p, count - i, kinds, few);
-        let from = p + 5;
+        let from = p + NAME_WORD;
         let t = crate::text::tail_at(s, from + n);
         let Tail::Found { port, next } = t else {
             return es;

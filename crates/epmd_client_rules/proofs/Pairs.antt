@@ -11,11 +11,11 @@ use Rattle.wire.specs.Decimal.{decimal}
 use Rattle.wire.specs.Table.{tableBytes, Each}
 use Rattle.wire.proofs.DecimalLaws.{decimal-text}
 use Rattle.wire.proofs.TableLaws.{bytes-append, each-append, each-parts}
-use Rattle.names.specs.Node.{plain, nodeText, nodeName}
+use Rattle.names.specs.Node.{plain, nodeText}
 use Rattle.names.proofs.NodeLaws.{plain-text, name-some, name-text, name-of, text-join}
 use Rattle.epmd_rules.specs.Replies.{nameWord, portWord, lineWith}
 use Rattle.epmd_rules.proofs.ReplyLaws.{line-length}
-use Rattle.epmd_client_rules.specs.Readings.{Line, lineText, linesText, Allowed, Reading, Reads}
+use Rattle.epmd_client_rules.specs.Readings.{Line, lineText, linesText, Allowed, Reading}
 use Rattle.epmd_client_rules.specs.ReadingClaims.{PairAmbiguous}
 
 -- digits are plain text

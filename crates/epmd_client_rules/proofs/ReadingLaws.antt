@@ -1,13 +1,20 @@
--- The answer to a NAMES reply is fixed by the reply: 5 exactly if there is no reading, 20 exactly if there are two. Assumes nothing.
-use Prim.Native.Nat.{ℕ}
-use mathlib.Core.Path.{_≡_, refl, sym, ap, _∙_}
-use mathlib.Core.Logic.{_↔_}
-use mathlib.Core.List.{List}
+-- The answer to a NAMES reply is fixed by the reply: 5 exactly if there is no reading, 20 exactly if there are two. The names lie where they are told to
+-- lie. Assumes nothing.
+use Prim.Native.Nat.{ℕ, _+_}
+use mathlib.Core.Path.{_≡_, refl, sym, ap, ap₂, _∙_}
+use mathlib.Core.List.{List, [], _∷_, _++_, map, append-assoc}
 use native.Mathlib.Omega.{arith}
+use lib.ListN.{length, length-append}
+use Rattle.wire.specs.Run.{part}
+use Rattle.wire.specs.Number.{be}
+use Rattle.wire.specs.Decimal.{decimal}
+use Rattle.wire.specs.Table.{tableBytes}
+use Rattle.wire.proofs.RunLaws.{part-behind}
+use Rattle.epmd_rules.specs.Replies.{nameWord, portWord, lineWith}
 use Rattle.epmd_client_rules.specs.declared.reply.NamesReply.{NamesReply}
-use Rattle.epmd_client_rules.specs.Readings.{Reading, Reads, listed, Tells, none, several, only}
+use Rattle.epmd_client_rules.specs.Readings.{Line, lineText, linesText, linesAt, listed, Tells, none, several, only}
 use Rattle.epmd_client_rules.specs.Answers.{listingNumber}
-use Rattle.epmd_client_rules.specs.ReadingClaims.{ToldOnce, NoReading, TwoReadings, OneReading, ReadAs, ReadExactly}
+use Rattle.epmd_client_rules.specs.ReadingClaims.{ToldOnce, NoReading, TwoReadings, OneReading, ReadAs, ReadExactly, lineIn, LinesLie}
 
 module _ (b : List ℕ) where
   -- no two of the three
@@ -58,3 +65,28 @@ told-once b r s t u = once b t u
 
 pub read-exactly : ReadExactly
 read-exactly b r t = read-as b t
+
+-- ---- where the names lie
+
+regroup : (pre n t r : List ℕ) → pre ++ ((nameWord ++ (n ++ t)) ++ r) ≡ (pre ++ nameWord) ++ (n ++ (t ++ r))
+regroup pre n t r = simp append-assoc
+
+module _ (b : List ℕ) where
+  named : (pre : List ℕ) (at : ℕ) (x : Line) (r : List ℕ) → length pre ≡ at → pre ++ (lineText x ++ r) ≡ b → part (at + length nameWord) (length (x .name)) b ≡ x .name
+  unfolding lineWith
+  named pre at x r l e =
+      let tail : List ℕ = portWord ++ (decimal (x .port) ++ (10 ∷ [])) in
+      ap (part (at + 5) (length (x .name))) (sym e ∙ regroup pre (x .name) tail r)
+      ∙ part-behind (pre ++ nameWord) (x .name) (tail ++ r) (at + 5) (length (x .name)) (omega (arith, length-append pre nameWord)) refl
+
+  lie : (xs : List Line) (pre : List ℕ) (at : ℕ) → length pre ≡ at → pre ++ linesText xs ≡ b → map (lineIn b) (linesAt at xs) ≡ xs
+  unfolding tableBytes
+  lie [] pre at l e = refl
+  lie (x ∷ xs) pre at l e =
+      let n : part (at + 5) (length (x .name)) b ≡ x .name = named pre at x (linesText xs) l e in
+      let line : record { name = part (at + 5) (length (x .name)) b; port = x .port } ≡ x = λ i. record { name = n i; port = x .port } in
+      ap₂ (λ (y : Line) (ys : List Line). y ∷ ys) line
+      (lie xs (pre ++ lineText x) (at + length (lineText x)) (omega (arith, length-append pre (lineText x), l)) (append-assoc pre (lineText x) (linesText xs) ∙ e))
+
+pub lines-lie : LinesLie
+lines-lie b m r = lie b (m .lines) (be 4 (m .own)) 4 refl (r .text)

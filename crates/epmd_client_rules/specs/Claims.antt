@@ -34,7 +34,7 @@ use Rattle.epmd_client_rules.specs.Requests.{Writing, alive2Writing, por
 use Rattle.epmd_client_rules.specs.Replies.{resultIn, nameIn, extraIn, alive2Read, port2Read}
 use Rattle.epmd_client_rules.specs.Readings.{Line, Reading, listed, notListed, Tells}
 use Rattle.epmd_client_rules.specs.Answers.{alive2Numbers, port2Numbers}
-use Rattle.epmd_client_rules.specs.ReadingClaims.{ToldOnce, ReadExactly, PairAmbiguous}
+use Rattle.epmd_client_rules.specs.ReadingClaims.{ToldOnce, LinesLie, ReadExactly, PairAmbiguous}
 
 -- ---- "a request written from allowed fields is accepted as those fields"
 
@@ -196,4 +196,5 @@ pub record Promises : Type 0 where
   pub parts-lie : PartsLie
   pub refused-exactly : RefusedExactly
   pub told-once : ToldOnce
+  pub lines-lie : LinesLie
   pub pair-ambiguous : PairAmbiguous

@@ -2,10 +2,12 @@
 use Prim.Native.Nat.{ℕ, _+_, _≤_}
 use mathlib.Core.Path.{_≡_}
 use mathlib.Core.Logic.{_↔_}
-use mathlib.Core.List.{List, _∷_, _++_}
+use mathlib.Core.List.{List, _∷_, _++_, map}
 use lib.ListN.{length}
+use Rattle.wire.specs.Run.{part}
+use Rattle.epmd_client_rules.specs.declared.reply.LineAt.{LineAt}
 use Rattle.epmd_client_rules.specs.declared.reply.NamesReply.{NamesReply}
-use Rattle.epmd_client_rules.specs.Readings.{Line, lineText, Reading, Reads, Tells}
+use Rattle.epmd_client_rules.specs.Readings.{Line, lineText, Reading, Reads, linesAt, Tells}
 use Rattle.epmd_client_rules.specs.Answers.{listingNumber}
 
 -- the answer is fixed by the reply (ReadingLaws.told-once)
@@ -30,6 +32,14 @@ pub record ReadAs (b : List ℕ) (number : ℕ) : Type 0 where
 -- (ReadingLaws.read-exactly)
 abbrev pub ReadExactly : Type 0
 ReadExactly = (b : List ℕ) (r : NamesReply) → Tells b r → ReadAs b (listingNumber (r .listing))
+
+-- the line that a place in a reply stands for
+abbrev pub lineIn : List ℕ → LineAt → Line
+lineIn b e = record { name = part (e .at) (e .len) b; port = e .port }
+
+-- every name lies where it is told to lie (ReadingLaws.lines-lie)
+abbrev pub LinesLie : Type 0
+LinesLie = (b : List ℕ) (m : Reading) → Reads b m → map (lineIn b) (linesAt 4 (m .lines)) ≡ m .lines
 
 -- "(names may hold newlines)": of two lines side by side, if the first with its newline and the second's name make up at most 255 bytes, there is
 -- another reading, in which a name holds them both: nearly every reply with two short names is ambiguous (Pairs.pair-ambiguous)

@@ -1,21 +1,16 @@
-use Prim.Native.Nat.{ℕ, _-_, _≤_, _<_}
+use Prim.Native.Nat.{ℕ, _-_}
 use mathlib.Core.Path.{_≡_, sym, ap, _∙_, subst}
 use mathlib.Core.List.{List, _++_}
 use native.Mathlib.Omega.{arith}
 use lib.ListN.{length, take, drop}
+use borrow.Author.Needs.{needs}
 use Rattle.wire.specs.Number.{be}
 use Rattle.wire.proofs.RunLaws.{rest}
 use Rattle.epmd_client_rules.specs.declared.reply.NamesReply.{NamesReply}
 use Rattle.epmd_client_rules.specs.Readings.{Tells}
 use Rattle.epmd_client_names.proofs.ReplyLaws.{told-short, told-big, whole}
-use borrow.Author.Needs.{needs}
 use Rattle.epmd_client_names.proofs.read.read_names.Statement.{statement}
 use Rattle.epmd_client_names.proofs.read.read_names.Tie as tie
-use Rattle.epmd_client_names.proofs.read.read_names.Reads as reads
-use Rattle.epmd_client_names.proofs.read.read_names.Lts as lts
-use Rattle.epmd_client_names.proofs.read.read_text.Reads as read-text-reads
-use Rattle.epmd_client_names.proofs.read.refused.Reads as refused-reads
-use Rattle.wire.proofs.get32.Reads as get32-reads
 
 refused-requires : tie.Need-refused-requires
 refused-requires c κs = search needs

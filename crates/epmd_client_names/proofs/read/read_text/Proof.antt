@@ -1,23 +1,17 @@
-use Prim.Native.Nat.{ℕ, _-_, _≤_, _<_}
-use mathlib.Core.Path.{_≡_, sym, ap, _∙_, subst}
+use Prim.Native.Nat.{ℕ, _≤_}
+use mathlib.Core.Path.{_≡_, sym, _∙_, subst}
 use mathlib.Core.List.{List, _++_}
 use native.Mathlib.Omega.{arith}
 use lib.ListN.{getD}
+use borrow.Author.Needs.{needs}
 use Rattle.wire.specs.Number.{be}
 use Rattle.epmd_client_rules.specs.declared.reply.Listing.the-variants.{Listed, Refused}
 use Rattle.epmd_client_rules.specs.declared.reply.NamesReply.{NamesReply}
 use Rattle.epmd_client_rules.specs.Readings.{Tells}
 use Rattle.epmd_client_names.specs.Tallies.{verdictOf}
 use Rattle.epmd_client_names.proofs.ReplyLaws.{Decided, decided, told-none, told-refused, told-listed, told-walked, too-long}
-use borrow.Author.Needs.{needs}
 use Rattle.epmd_client_names.proofs.read.read_text.Statement.{statement}
 use Rattle.epmd_client_names.proofs.read.read_text.Tie as tie
-use Rattle.epmd_client_names.proofs.read.read_text.Reads as reads
-use Rattle.epmd_client_names.proofs.read.read_text.Lts as lts
-use Rattle.epmd_client_names.proofs.read.refused.Reads as refused-reads
-use Rattle.epmd_client_names.proofs.survey.fill.Reads as fill-reads
-use Rattle.epmd_client_names.proofs.tally.verdict.Reads as verdict-reads
-use Rattle.epmd_client_names.proofs.walk.walk.Reads as walk-reads
 
 refused-requires : tie.Need-refused-requires
 refused-requires c κs = search needs

@@ -1,15 +1,12 @@
-use Prim.Native.Nat.{ℕ, _+_, _-_, _≤_, _<_}
-use mathlib.Core.Path.{_≡_, refl, sym, _∙_, subst}
+use Prim.Native.Nat.{ℕ, _-_, _≤_}
+use mathlib.Core.Path.{_≡_, refl, _∙_}
 use native.Mathlib.Omega.{arith}
-use borrow.Author.Needs.{needs}
 use lib.ListN.{length, length-set}
+use borrow.Author.Needs.{needs}
 use Rattle.epmd_client_names.specs.Survey.{Room, Rows}
 use Rattle.epmd_client_names.proofs.SurveyLaws.{room-set, rows-set, at-end}
 use Rattle.epmd_client_names.proofs.survey.fill.Statement.{statement}
 use Rattle.epmd_client_names.proofs.survey.fill.Tie as tie
-use Rattle.epmd_client_names.proofs.survey.fill.Reads as reads
-use Rattle.epmd_client_names.proofs.survey.fill.Lts as lts
-use Rattle.epmd_client_names.proofs.survey.place.Reads as place-reads
 
 abbrev Inv-loop : tie.InvT-loop
 Inv-loop s kinds₀ few₀ p₀ kinds few p = (p ≤ length s) × Room s kinds few × (length kinds ≡ length kinds₀) × (length few ≡ length few₀) × Rows s p kinds few

@@ -1,14 +1,9 @@
-use Prim.Native.Nat.{ℕ, _+_, _-_, _≤_, _<_}
-use mathlib.Core.Path.{_≡_, refl, sym, _∙_, subst}
+use mathlib.Core.Path.{sym, _∙_}
 use native.Mathlib.Omega.{arith}
-use Rattle.epmd_client_names.proofs.SurveyLaws.{no-word}
 use borrow.Author.Needs.{needs}
+use Rattle.epmd_client_names.proofs.SurveyLaws.{no-word}
 use Rattle.epmd_client_names.proofs.survey.place.Statement.{statement}
 use Rattle.epmd_client_names.proofs.survey.place.Tie as tie
-use Rattle.epmd_client_names.proofs.survey.place.Reads as reads
-use Rattle.epmd_client_names.proofs.survey.place.Lts as lts
-use Rattle.epmd_client_names.proofs.survey.every.Reads as every-reads
-use Rattle.epmd_client_names.proofs.text.has.Reads as has-reads
 
 slice-aggregate-has : tie.Need-slice-aggregate-has
 slice-aggregate-has c = search needs

@@ -3,6 +3,7 @@ use mathlib.Core.Path.{_≡_, sym, ap, _∙_, subst}
 use native.Mathlib.Numerals.{add-one}
 use native.Mathlib.Omega.{arith}
 use lib.ListN.{getD}
+use borrow.Author.Needs.{needs}
 use Rattle.names.specs.Node.{nodeName}
 use Rattle.epmd_client_names.specs.declared.text.Tail.the-variants.{Found}
 use Rattle.epmd_client_names.specs.Text.{tailAt}
@@ -10,14 +11,8 @@ use Rattle.epmd_client_names.specs.Tallies.{Means}
 use Rattle.epmd_client_names.specs.Survey.{Exact}
 use Rattle.epmd_client_names.proofs.PortLaws.{tail-sound}
 use Rattle.epmd_client_names.proofs.SurveyLaws.{none-short, none-tail, none-named, one-more}
-use borrow.Author.Needs.{needs}
 use Rattle.epmd_client_names.proofs.survey.through.Statement.{statement}
 use Rattle.epmd_client_names.proofs.survey.through.Tie as tie
-use Rattle.epmd_client_names.proofs.survey.through.Reads as reads
-use Rattle.epmd_client_names.proofs.survey.through.Lts as lts
-use Rattle.epmd_client_names.proofs.text.tail_at.Reads as tail-at-reads
-use Rattle.names.proofs.is_node_name.Reads as is-node-name-reads
-use Rattle.wire.proofs.get_part.Reads as get-part-reads
 
 add-from : tie.Need-add-from
 add-from c = search needs

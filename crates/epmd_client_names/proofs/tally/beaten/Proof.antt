@@ -1,8 +1,6 @@
 use borrow.Author.Tests.{eq-eqb, ne-eqb}
 use Rattle.epmd_client_names.proofs.tally.beaten.Statement.{statement}
 use Rattle.epmd_client_names.proofs.tally.beaten.Tie as tie
-use Rattle.epmd_client_names.proofs.tally.beaten.Reads as reads
-use Rattle.epmd_client_names.proofs.tally.beaten.Lts as lts
 
 returns : tie.Need-returns
 returns c = simp (eq-eqb _ _ (c .if1 .taken))

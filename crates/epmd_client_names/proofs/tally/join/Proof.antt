@@ -1,14 +1,10 @@
 use mathlib.Core.Path.{sym, _∙_}
 use borrow.Author.Tests.{eq-eqb, ne-eqb, lt-ltb, le-ltb}
 use borrow.Author.Needs.{needs}
+use Rattle.epmd_client_names.specs.Tallies.{joinOf}
 use Rattle.epmd_client_names.proofs.TallyLaws.{join-more}
-use Rattle.epmd_client_names.specs.Tallies.{joinOf}
-use Rattle.epmd_client_names.specs.Tallies.{joinOf}
 use Rattle.epmd_client_names.proofs.tally.join.Statement.{statement}
 use Rattle.epmd_client_names.proofs.tally.join.Tie as tie
-use Rattle.epmd_client_names.proofs.tally.join.Reads as reads
-use Rattle.epmd_client_names.proofs.tally.join.Lts as lts
-use Rattle.epmd_client_names.proofs.tally.beaten.Reads as beaten-reads
 
 returns : tie.Need-returns
 unfolding joinOf

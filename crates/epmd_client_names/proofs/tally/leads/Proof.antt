@@ -2,8 +2,6 @@ use borrow.Author.Tests.{eq-eqb, ne-eqb}
 use Rattle.epmd_client_names.specs.Tallies.{leadsOf}
 use Rattle.epmd_client_names.proofs.tally.leads.Statement.{statement}
 use Rattle.epmd_client_names.proofs.tally.leads.Tie as tie
-use Rattle.epmd_client_names.proofs.tally.leads.Reads as reads
-use Rattle.epmd_client_names.proofs.tally.leads.Lts as lts
 
 returns : tie.Need-returns
 unfolding leadsOf

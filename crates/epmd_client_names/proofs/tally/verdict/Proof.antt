@@ -2,8 +2,6 @@ use borrow.Author.Tests.{eq-eqb, ne-eqb, lt-ltb, le-ltb}
 use Rattle.epmd_client_names.specs.Tallies.{verdictOf}
 use Rattle.epmd_client_names.proofs.tally.verdict.Statement.{statement}
 use Rattle.epmd_client_names.proofs.tally.verdict.Tie as tie
-use Rattle.epmd_client_names.proofs.tally.verdict.Reads as reads
-use Rattle.epmd_client_names.proofs.tally.verdict.Lts as lts
 
 returns : tie.Need-returns
 unfolding verdictOf

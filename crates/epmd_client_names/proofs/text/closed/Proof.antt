@@ -3,8 +3,6 @@ use borrow.Author.Needs.{needs}
 use Rattle.epmd_client_names.specs.Text.{closedAt}
 use Rattle.epmd_client_names.proofs.text.closed.Statement.{statement}
 use Rattle.epmd_client_names.proofs.text.closed.Tie as tie
-use Rattle.epmd_client_names.proofs.text.closed.Reads as reads
-use Rattle.epmd_client_names.proofs.text.closed.Lts as lts
 
 returns : tie.Need-returns
 unfolding closedAt

@@ -4,8 +4,6 @@ use borrow.Author.Needs.{needs}
 use Rattle.epmd_client_names.specs.Text.{digitAt}
 use Rattle.epmd_client_names.proofs.text.digit_at.Statement.{statement}
 use Rattle.epmd_client_names.proofs.text.digit_at.Tie as tie
-use Rattle.epmd_client_names.proofs.text.digit_at.Reads as reads
-use Rattle.epmd_client_names.proofs.text.digit_at.Lts as lts
 
 returns : tie.Need-returns
 unfolding digitAt

@@ -1,18 +1,12 @@
+use Prim.Native.Nat.{ℕ}
+use mathlib.Core.Path.{sym, ap, _∙_}
 use mathlib.Core.List.{List}
-use Prim.Native.Nat.{ℕ, _+_, _-_}
-use mathlib.Core.Path.{_≡_, sym, ap, _∙_}
-use native.Mathlib.Omega.{arith}
-use lib.ListN.{length, take, drop}
 use borrow.Author.Needs.{needs}
 use Rattle.wire.specs.Run.{sameBytes}
 use Rattle.epmd_client_names.specs.Text.{hasAt}
 use Rattle.epmd_client_names.proofs.TextLaws.{has-short}
 use Rattle.epmd_client_names.proofs.text.has.Statement.{statement}
 use Rattle.epmd_client_names.proofs.text.has.Tie as tie
-use Rattle.epmd_client_names.proofs.text.has.Reads as reads
-use Rattle.epmd_client_names.proofs.text.has.Lts as lts
-use Rattle.wire.proofs.get_part.Reads as get-part-reads
-use Rattle.wire.proofs.same_bytes.Reads as same-bytes-reads
 
 sub-if1 : tie.Need-sub-if1
 sub-if1 c = search needs

@@ -6,10 +6,6 @@ use Rattle.epmd_client_names.specs.Text.{portFrom, portAt}
 use Rattle.epmd_client_names.proofs.TextLaws.{from-stop, from-zero, from-big, from-go, port-none, port-some}
 use Rattle.epmd_client_names.proofs.text.port_at.Statement.{statement}
 use Rattle.epmd_client_names.proofs.text.port_at.Tie as tie
-use Rattle.epmd_client_names.proofs.text.port_at.Reads as reads
-use Rattle.epmd_client_names.proofs.text.port_at.Lts as lts
-use Rattle.epmd_client_names.proofs.text.closed.Reads as closed-reads
-use Rattle.epmd_client_names.proofs.text.digit_at.Reads as digit-at-reads
 
 abbrev Inv-loop : tie.InvT-loop
 Inv-loop s i v₀ k₀ j₀ v k j = (k ≤ 4) × (v ≤ 65539) × (j + k ≤ i + 5) × (portAt s i ≡ portFrom k s j v)

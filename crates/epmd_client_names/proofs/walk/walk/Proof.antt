@@ -1,18 +1,14 @@
-use Prim.Native.Nat.{ℕ, _+_, _-_, _≤_, _<_}
-use mathlib.Core.Path.{_≡_, refl, sym, _∙_, subst}
+use Prim.Native.Nat.{ℕ, _+_, _-_, _≤_}
+use mathlib.Core.Path.{_≡_, refl, sym, _∙_}
 use native.Mathlib.Omega.{arith}
-use borrow.Author.Needs.{needs}
 use lib.ListN.{length, length-set}
+use borrow.Author.Needs.{needs}
 use Rattle.epmd_client_rules.specs.Readings.{most}
 use Rattle.epmd_client_names.specs.declared.text.Tail.the-variants.{Missing, Found}
 use Rattle.epmd_client_names.specs.Text.{tailAt}
 use Rattle.epmd_client_names.proofs.WalkLaws.{Sofar, sofar-start, sofar-word, sofar-line, sofar-next, sofar-end}
 use Rattle.epmd_client_names.proofs.walk.walk.Statement.{statement}
 use Rattle.epmd_client_names.proofs.walk.walk.Tie as tie
-use Rattle.epmd_client_names.proofs.walk.walk.Reads as reads
-use Rattle.epmd_client_names.proofs.walk.walk.Lts as lts
-use Rattle.epmd_client_names.proofs.text.tail_at.Reads as tail-at-reads
-use Rattle.epmd_client_names.proofs.walk.first_len.Reads as first-len-reads
 
 abbrev Inv-loop : tie.InvT-loop
 Inv-loop s kinds few count es₀ p₀ i₀ es p i = (i ≤ count) × (length es ≡ most) × Sofar s count es p i
