@@ -1,6 +1,7 @@
 /*
- * The header from C and from C++: that the library is of its version, that structs lie as the library lays them out, 01's worked frames, by
- * bytes and by a node's own calls, a whole handshake, empty runs, that a refusal writes nothing, and that equal states are equal bytes. Compiled as C11 and as C++17.
+ * The header from C and from C++: that the library is of its version, that structs lie as the library lays them out, 01's worked frames (by
+ * bytes, and by a node's own calls), a whole handshake, empty runs, that a refusal writes nothing, and that equal states are equal bytes.
+ * Compiled as C11 and as C++17.
  */
 #include "birkenschuh.h"
 

@@ -25,9 +25,10 @@ pub enum Refusal {
     SlotNotTaken = 2,
     /// The lent bytes are not exactly one frame.
     NotAFrame = 3,
-    /// The body's first byte is not served, or not at this stage.
+    /// The first byte of a body is not served, or not at this stage; or a reply is another's.
     UnknownTag = 4,
-    /// The length disagrees with the fields, or the extra field has more than 128 bytes.
+    /// The length disagrees with the fields, or the extra field has more than 128 bytes; or a NAMES
+    /// reply has no reading.
     BadLength = 5,
     /// The name breaks its rule, or is not the expected one.
     BadName = 6,

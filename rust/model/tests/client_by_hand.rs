@@ -226,6 +226,25 @@ fn names_that_join() {
     assert_eq!(listed(&one(256 - 18)), Err(5));
 }
 
+/// The piece in the middle is no line of its own, and goes with either neighbour, but not with both:
+/// two readings of two lines each, and no other.
+#[test]
+fn names_that_join_either_way() {
+    let either = |a: usize| {
+        format!(
+            "name {:a>a$} at port 1\nname  at port 2\nname c at port 3\n",
+            ""
+        )
+    };
+    assert_eq!(listed(&either(255 - 16 - 17)), Err(20));
+    assert_eq!(listed(&either(256 - 16 - 17)), Err(20));
+    assert_eq!(listed(&either(255 - 16)), Err(20));
+    // Only the last is near enough.
+    assert!(listed(&either(256 - 16))
+        .unwrap()
+        .ends_with(r"=1  at port 2\nname c=3"));
+}
+
 /// Lines too long to join, and two at the end that can be.
 #[test]
 fn names_of_64_lines() {

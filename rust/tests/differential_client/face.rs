@@ -120,12 +120,13 @@ pub fn port2_told(told: &Result<model::Port2Reply, u32>) -> bks_port2_reply {
     all
 }
 
+pub const NO_LINE: bks_names_line = bks_names_line {
+    at: 0,
+    len: 0,
+    port: 0,
+};
+
 pub fn names_told(told: &Result<model::NamesReply, u32>) -> bks_names_reply {
-    const NO_LINE: bks_names_line = bks_names_line {
-        at: 0,
-        len: 0,
-        port: 0,
-    };
     let mut all = bks_names_reply {
         refusal: 0,
         port: 0,

@@ -149,6 +149,24 @@ fn joined_names() {
     assert_eq!(times(&run(0, calls)), [0, 2, 0, 2, 0]);
 }
 
+/// A piece that is no line of its own, since it has no name, between two lines: it goes with either, or
+/// with both, as their lengths allow.
+#[test]
+fn joined_either_way() {
+    let either = |a: usize, c: usize| {
+        let lines = [vec![b'a'; a], vec![], vec![b'c'; c]].map(|name| line(&name, "1"));
+        times(&run(0, [listed(&lines)]))
+    };
+    let (one, several, none) = ([0, 1, 0, 0, 0], [0, 0, 0, 0, 1], [0, 0, 0, 1, 0]);
+    assert_eq!(either(1, 1), several);
+    assert_eq!(either(120, 255 - 120 - 2 * BETWEEN), several);
+    assert_eq!(either(120, 256 - 120 - 2 * BETWEEN), several);
+    assert_eq!(either(255 - BETWEEN, 255 - BETWEEN), several);
+    assert_eq!(either(255 - BETWEEN, 256 - BETWEEN), one);
+    assert_eq!(either(256 - BETWEEN, 255 - BETWEEN), one);
+    assert_eq!(either(256 - BETWEEN, 256 - BETWEEN), none);
+}
+
 #[test]
 fn numbers_of_lines() {
     let calls = (0..=70).map(|lines| listed(&vec![long(); lines]));

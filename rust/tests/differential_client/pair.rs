@@ -3,6 +3,7 @@
 use std::ops::Range;
 
 use birkenschuh::client::{self, Alive2Reply, Port2Reply};
+use birkenschuh::ffi::{bks_names_line, bks_names_reply};
 use birkenschuh::Refusal;
 
 use crate::calls::{Call, Reader, Request};
@@ -135,10 +136,12 @@ fn read_port2(reply: &[u8], tally: &mut Tally) -> Result<(), String> {
 
 fn read_names(reply: &[u8], tally: &mut Tally) -> Result<(), String> {
     let expected = model::read_names(reply).map_err(model::Refusal::number);
+    let told = face::read_names(reply);
+    let to_be_told = face::names_told(&expected);
     same(
         "what is told over pointers",
-        face::read_names(reply),
-        face::names_told(&expected),
+        shown(&told),
+        shown(&to_be_told),
     )?;
     let safe = client::read_names(reply).map(|told| model::NamesReply {
         port: told.port(),
@@ -158,6 +161,13 @@ fn read_names(reply: &[u8], tally: &mut Tally) -> Result<(), String> {
         Err(refusal) => format!("names not read: {refusal}"),
     });
     same("what is told", safe.map_err(Refusal::number), expected)
+}
+
+/// All of the struct but the zero lines at its end.
+fn shown(told: &bks_names_reply) -> (u32, u16, u32, &[bks_names_line]) {
+    let last = told.line.iter().rposition(|line| *line != face::NO_LINE);
+    let lines = &told.line[..last.map_or(0, |last| last + 1)];
+    (told.refusal, told.port, told.count, lines)
 }
 
 /// Where a part of a reply lies in it.

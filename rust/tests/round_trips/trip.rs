@@ -130,11 +130,9 @@ impl Trip {
                 return same("the model", Some(model::Refusal::Ambiguous), expected);
             }
         };
-        let line = |at: &Registration| (at.name.clone(), at.port);
-        let lines: Vec<(Vec<u8>, u16)> = all.iter().map(line).collect();
-        let line = |line: &Line<'_>| (line.name.to_vec(), line.port);
+        let lines: Vec<Line<'_>> = all.iter().map(line).collect();
         same("the port", told.port(), port)?;
-        same("the lines", told.lines().iter().map(line).collect(), lines)?;
+        same("the lines", told.lines(), &lines)?;
         tally.count(match all.len() {
             0 => "listed, none",
             PLACES => "listed, 64",
@@ -148,6 +146,13 @@ impl Trip {
 fn not_written(refusal: Refusal, tally: &mut Tally) -> Result<(), String> {
     tally.count(format!("not written, {}", refusal.number()));
     Ok(())
+}
+
+fn line(of: &Registration) -> Line<'_> {
+    Line {
+        name: &of.name,
+        port: of.port,
+    }
 }
 
 fn registration(connection: u32, creation: u32, fields: &Fields) -> Registration {

@@ -1,15 +1,14 @@
 //! The boundary of a node's end of the mapper: null pointers, how the structs lie, which field is
 //! which, what is lent, and what a log would show.
 
-mod common;
-
 use std::mem::offset_of;
 use std::ptr::{null, null_mut};
 
 use birkenschuh::client::{self, Line, NamesReply, Node, Port2Reply, REQUEST_OUTPUT};
 use birkenschuh::ffi::{self, bks_alive2_reply, bks_names_line, bks_names_reply, bks_port2_reply};
 use birkenschuh::{Refusal, PLACES};
-use common::frames::Alive2;
+
+use crate::common::frames::Alive2;
 
 /// Null with length 0 is an empty run, wherever a run is lent.
 #[test]
@@ -24,7 +23,11 @@ fn null_is_an_empty_run() {
         (told.refusal, told.written)
     };
     assert_eq!(alive2(null(), 0, null(), 0, at, room), (6, 0));
-    assert_eq!(alive2(null(), 0, name, 129, null_mut(), 0), (5, 0));
+    let extra = [7; 129];
+    assert_eq!(
+        alive2(null(), 0, extra.as_ptr(), 129, null_mut(), 0),
+        (5, 0)
+    );
     assert_eq!(alive2(name, 1, null(), 0, null_mut(), 0), (1, 0));
     assert!(out.iter().all(|byte| *byte == 0xa5));
     assert_eq!(alive2(name, 1, null(), 0, at, room), (0, 16));
