@@ -134,13 +134,21 @@ fn listing(case: &str, names: &[Vec<u8>]) {
     );
 }
 
-/// A reply of so many bytes that takes longest of all that were tried: a line may begin at every
-/// "name " and end at every " at port 1", and hardly a name between them is plain ASCII, which is told
-/// faster.
+/// Text that takes longest of all that were tried: a line may begin at every "name " and end at every
+/// " at port 1", and hardly a name between them is plain ASCII, which is told faster.
+const CROWDED: &str = "éname name at port 1\nname name at port 1\nname ";
+
+/// A reply of so many bytes with that text alone.
 fn crowded(length: usize) -> Vec<u8> {
-    let unit = format!("é{}", "name name at port 1\n".repeat(3));
-    let text = unit.bytes().cycle();
+    let text = CROWDED.bytes().cycle();
     [0; 4].into_iter().chain(text).take(length).collect()
+}
+
+/// A name of 255 bytes with that text, which a mapper takes and so writes.
+fn crowded_name(i: usize) -> Vec<u8> {
+    let mut name = CROWDED.repeat(253 / CROWDED.len()).into_bytes();
+    name.resize(253, b'x');
+    [&name, format!("{i:02}").as_bytes()].concat()
 }
 
 pub fn names() {
@@ -151,6 +159,7 @@ pub fn names() {
     listing("2 of 6 bytes, refused with 20", &names(2, short));
     listing("64 of 6 bytes, refused with 20", &names(64, short));
     listing("64 of 255 bytes", &names(64, long));
+    listing("64 of 255 bytes, most candidates", &names(64, crowded_name));
     for length in [8_804, REGISTRY_OUTPUT] {
         let (whole, half) = (crowded(length), crowded(4 + (length - 4) / 2));
         versus(
