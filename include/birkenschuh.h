@@ -1,5 +1,6 @@
 /*
- * Birkenschuh for hosts in C and C++: the EPMD mapper (registry), the distribution handshake (endpoint), MD5 and the name rules.
+ * Birkenschuh for hosts in C and C++: the EPMD mapper (registry), a node's end of it (requests and replies), the distribution handshake
+ * (endpoint), MD5 and the name rules.
  *
  * Every function here is one of the proved library; docs/HOSTS.md is the chapter for hosts.
  *
@@ -38,9 +39,10 @@ size_t bks_endpoint_size(void);
 
 /* ---- limits */
 
-/* How many output bytes a call has to be lent. */
+/* How many output bytes a call has to be lent. A request needs no more than its own frame has, and none is longer than this. */
 #define BKS_REGISTRY_OUTPUT 17604
 #define BKS_ENDPOINT_OUTPUT 300
+#define BKS_REQUEST_OUTPUT 398
 
 /* How many registrations a registry has room for, and how many connections an endpoint. */
 #define BKS_PLACES 64
@@ -65,7 +67,8 @@ enum {
     BKS_REFUSED_UNKNOWN_STATUS = 14,
     BKS_REFUSED_WRONG_DIGEST = 15,
     BKS_REFUSED_DECLINED = 16,
-    BKS_REFUSED_ZERO_CREATION = 17
+    BKS_REFUSED_ZERO_CREATION = 17,
+    BKS_REFUSED_AMBIGUOUS = 20
 };
 
 /* ---- tags: the third byte of a frame, and the first of a mapper's reply */
@@ -117,6 +120,56 @@ bool bks_registry_close(bks_registry *r, uint32_t connection);
 bks_registration bks_registry_entry(const bks_registry *r, uint32_t place);
 uint32_t bks_registry_next(const bks_registry *r);
 uint16_t bks_registry_port(const bks_registry *r);
+
+/* ---- a node's end of the mapper */
+
+/*
+ * Writing a request: from the first output byte on, and the bytes behind keep their contents. Refused, in this order: extra over 128 bytes
+ * with 5, a name that a node may not register under with 6, versions with 7, an output shorter than the frame with 1.
+ */
+bks_written bks_alive2_request(uint16_t port, uint8_t kind, uint8_t protocol, uint16_t highest, uint16_t lowest,
+                               const uint8_t *name, size_t name_len, const uint8_t *extra, size_t extra_len,
+                               uint8_t *out, size_t out_len);
+bks_written bks_port_please2_request(const uint8_t *name, size_t name_len, uint8_t *out, size_t out_len);
+bks_written bks_names_request(uint8_t *out, size_t out_len);
+
+/*
+ * Reading a reply, which has no length before it: all that the mapper sent is lent. Nothing at all is 5, a wrong tag 4, any other wrong
+ * length 5. A result above 0 is the mapper's error. Beside a refusal every other field is 0, and so are those behind result beside an error.
+ */
+
+/* tag tells which reply it was, BKS_ALIVE2_X_RESP or BKS_ALIVE2_RESP; the latter has a short creation. */
+typedef struct { uint32_t refusal; uint32_t tag; uint32_t result; uint32_t creation; } bks_alive2_reply;
+
+/* The node's fields, none of them examined. Name and extra are parts of the reply, counted from its first byte. */
+typedef struct {
+    uint32_t refusal;
+    uint32_t result;
+    uint16_t port;
+    uint16_t highest;
+    uint16_t lowest;
+    uint8_t kind;
+    uint8_t protocol;
+    uint32_t name_at;
+    uint32_t name_len;
+    uint32_t extra_at;
+    uint32_t extra_len;
+} bks_port2_reply;
+
+/* A line of a NAMES reply: a name, as a part of the reply counted from its first byte, and its port. */
+typedef struct { uint32_t at; uint32_t len; uint16_t port; } bks_names_line;
+
+/* The mapper's own port, and how many lines there are; those behind are zero. */
+typedef struct { uint32_t refusal; uint16_t port; uint32_t count; bks_names_line line[BKS_PLACES]; } bks_names_reply;
+
+bks_alive2_reply bks_read_alive2(const uint8_t *reply, size_t len);
+bks_port2_reply bks_read_port2(const uint8_t *reply, size_t len);
+
+/*
+ * 5 where there is no reading: under 4 bytes, an own port above 65535, or text that is not at most 64 lines. 20 where there is more than
+ * one, since a name may hold newlines: then ask for a name by PORT_PLEASE2.
+ */
+bks_names_reply bks_read_names(const uint8_t *reply, size_t len);
 
 /* ---- the handshake */
 

@@ -1,6 +1,7 @@
 /*
- * The header from C and from C++: that the library is of its version, that structs lie as the library lays them out, 01's worked frames, a
- * whole handshake, empty runs, that a refusal writes nothing, and that equal states are equal bytes. Compiled as C11 and as C++17.
+ * The header from C and from C++: that the library is of its version, that structs lie as the library lays them out, 01's worked frames (by
+ * bytes, and by a node's own calls), a whole handshake, empty runs, that a refusal writes nothing, and that equal states are equal bytes.
+ * Compiled as C11 and as C++17.
  */
 #include "birkenschuh.h"
 
@@ -33,6 +34,11 @@ static void layout(void) {
     CHECK(sizeof(bks_endpoint) == BKS_ENDPOINT_SIZE && sizeof beside_e == BKS_ENDPOINT_SIZE + 1);
     CHECK(sizeof(bks_started) == 16 && sizeof(bks_arrived) == 8 && sizeof(bks_answered) == 24 && sizeof(bks_written) == 16);
     CHECK(sizeof(bks_registration) == 404 && offsetof(bks_registration, port) == 388 && offsetof(bks_registration, creation) == 400);
+    CHECK(sizeof(bks_alive2_reply) == 16 && offsetof(bks_alive2_reply, result) == 8 && offsetof(bks_alive2_reply, creation) == 12);
+    CHECK(sizeof(bks_port2_reply) == 32 && offsetof(bks_port2_reply, port) == 8 && offsetof(bks_port2_reply, kind) == 14);
+    CHECK(offsetof(bks_port2_reply, name_at) == 16 && offsetof(bks_port2_reply, extra_len) == 28);
+    CHECK(sizeof(bks_names_line) == 12 && offsetof(bks_names_line, port) == 8);
+    CHECK(sizeof(bks_names_reply) == 780 && offsetof(bks_names_reply, count) == 8 && offsetof(bks_names_reply, line) == 12);
     CHECK(sizeof(bks_slot) == 280 && offsetof(bks_slot, flags) == 16 && sizeof(bks_own) == 272 && offsetof(bks_own, name) == 13);
 }
 
@@ -76,6 +82,63 @@ static void mapper(void) {
     CHECK(bks_registry_entry(&r, 0).name_len == 0);
     CHECK(bks_registry_new(&other, 4369, 5) == 0 && memcmp(&r, &other, sizeof r) == 0);
     CHECK(bks_registry_new(&other, 4370, 0) == BKS_REFUSED_ZERO_CREATION && memcmp(&r, &other, sizeof r) == 0);
+}
+
+/* A node's three requests: 01's frames, no more room than they need, and nothing written where one is refused. */
+static void requests(void) {
+    uint8_t out[BKS_REQUEST_OUTPUT], pattern[BKS_REQUEST_OUTPUT], long_name[255], extra[129];
+    memset(out, 0xa5, sizeof out);
+    memset(pattern, 0xa5, sizeof pattern);
+    memset(long_name, 'n', sizeof long_name);
+    memset(extra, 7, sizeof extra);
+
+    CHECK(bks_alive2_request(4370, 77, 0, 4, 5, NULL, 0, extra, 129, NULL, 0).refusal == BKS_REFUSED_BAD_LENGTH);
+    CHECK(bks_alive2_request(4370, 77, 0, 4, 5, NULL, 0, extra, 128, NULL, 0).refusal == BKS_REFUSED_BAD_NAME);
+    CHECK(bks_alive2_request(4370, 77, 0, 4, 5, RUN("ride"), extra, 128, NULL, 0).refusal == BKS_REFUSED_BAD_VERSIONS);
+    CHECK(bks_alive2_request(4370, 77, 0, 6, 5, RUN("ride"), NULL, 0, out, 18).refusal == BKS_REFUSED_OUTPUT_TOO_SHORT);
+    CHECK(bks_port_please2_request(RUN("a@b"), NULL, 0).refusal == BKS_REFUSED_BAD_NAME);
+    CHECK(bks_port_please2_request(RUN("ride"), out, 6).refusal == BKS_REFUSED_OUTPUT_TOO_SHORT);
+    CHECK(bks_names_request(out, 2).refusal == BKS_REFUSED_OUTPUT_TOO_SHORT);
+    CHECK(memcmp(out, pattern, sizeof out) == 0);
+
+    bks_written w = bks_alive2_request(4370, 77, 0, 6, 5, RUN("ride"), NULL, 0, out, 19);
+    CHECK(IS(w, "\x00\x11\x78\x11\x12\x4d\x00\x00\x06\x00\x05\x00\x04ride\x00\x00") && memcmp(out + 19, pattern, sizeof out - 19) == 0);
+    CHECK(IS(bks_port_please2_request(RUN("ride"), out, 7), "\x00\x05zride"));
+    CHECK(IS(bks_names_request(out, 3), "\x00\x01n"));
+    w = bks_alive2_request(4370, 77, 0, 6, 5, long_name, sizeof long_name, extra, 128, out, sizeof out);
+    CHECK(w.refusal == 0 && w.written == BKS_REQUEST_OUTPUT);
+}
+
+static void replies(void) {
+    bks_alive2_reply a = bks_read_alive2(RUN("\x76\x00\x00\x00\x00\x04"));
+    CHECK(a.refusal == 0 && a.tag == BKS_ALIVE2_X_RESP && a.result == 0 && a.creation == 4);
+    a = bks_read_alive2(RUN("\x79\x01\x00\x63"));
+    CHECK(a.refusal == 0 && a.tag == BKS_ALIVE2_RESP && a.result == 1 && a.creation == 0);
+    a = bks_read_alive2(RUN("\x77\x01"));
+    CHECK(a.refusal == BKS_REFUSED_UNKNOWN_TAG && a.tag == 0 && a.result == 0);
+    CHECK(bks_read_alive2(NULL, 0).refusal == BKS_REFUSED_BAD_LENGTH && bks_read_alive2(RUN("\x76\x01")).refusal == BKS_REFUSED_BAD_LENGTH);
+
+    const char found[] = "\x77\x00\x11\x12\x4d\x01\x00\x06\x00\x05\x00\x04ride\x00\x03xtr";
+    bks_port2_reply p = bks_read_port2(RUN(found));
+    CHECK(p.refusal == 0 && p.result == 0 && p.port == 4370 && p.kind == 77 && p.protocol == 1 && p.highest == 6 && p.lowest == 5);
+    CHECK(p.name_len == 4 && memcmp(found + p.name_at, "ride", 4) == 0 && p.extra_len == 3 && memcmp(found + p.extra_at, "xtr", 3) == 0);
+    p = bks_read_port2(bytes_of(found), sizeof found);
+    CHECK(p.refusal == BKS_REFUSED_BAD_LENGTH && p.port == 0 && p.name_at == 0 && p.extra_at == 0);
+    p = bks_read_port2(RUN("\x77\x01"));
+    CHECK(p.refusal == 0 && p.result == 1 && p.port == 0 && p.name_at == 0 && p.name_len == 0);
+    CHECK(bks_read_port2(RUN("\x76\x01")).refusal == BKS_REFUSED_UNKNOWN_TAG && bks_read_port2(NULL, 0).refusal == BKS_REFUSED_BAD_LENGTH);
+}
+
+static void names(void) {
+    const char one[] = "\x00\x00\x11\x11name ride at port 4370\n", two[] = "\x00\x00\x11\x11name a at port 1\nname b at port 2\n";
+    bks_names_reply n = bks_read_names(RUN(one));
+    CHECK(n.refusal == 0 && n.port == 4369 && n.count == 1 && n.line[0].port == 4370 && n.line[0].at == 9 && n.line[0].len == 4);
+    for (size_t i = 1; i < BKS_PLACES; i++) CHECK(n.line[i].at == 0 && n.line[i].len == 0 && n.line[i].port == 0);
+    n = bks_read_names(RUN(two));
+    CHECK(n.refusal == BKS_REFUSED_AMBIGUOUS && n.refusal == 20 && n.port == 0 && n.count == 0 && n.line[0].len == 0);
+    n = bks_read_names(RUN("\x00\x00\x11\x11"));
+    CHECK(n.refusal == 0 && n.port == 4369 && n.count == 0);
+    CHECK(bks_read_names(bytes_of(one), sizeof one).refusal == BKS_REFUSED_BAD_LENGTH && bks_read_names(NULL, 0).refusal == BKS_REFUSED_BAD_LENGTH);
 }
 
 static void handshake(void) {
@@ -149,6 +212,9 @@ int main(void) {
     CHECK(bks_compare(RUN("a@b"), RUN("a@b")) == 0 && bks_compare(RUN("\xff"), RUN("\x01")) == 1 && bks_compare(NULL, 0, RUN("a")) == -1);
     layout();
     mapper();
+    requests();
+    replies();
+    names();
     handshake();
     ended();
     puts(failed ? "header: failed" : "header: ok");

@@ -1,6 +1,7 @@
 /*
  * How much stack the calls need: each runs on a stack of its own that was painted before, and the lowest byte that lost its paint tells how
- * deep the call went (what starts the stack included, some 32 bytes). Fails if one needs more than LIMIT. docs/HOSTS.md says the figure.
+ * deep the call went (what starts the stack included, some 32 bytes). Fails if one needs more than LIMIT, or bks_read_names, which keeps
+ * tables over the whole reply, more than NAMES_LIMIT. docs/HOSTS.md says the figures.
  */
 #define _XOPEN_SOURCE 700
 #include "birkenschuh.h"
@@ -9,13 +10,18 @@
 #include <string.h>
 #include <ucontext.h>
 
-enum { LIMIT = 8192, STACK = 1 << 18, PAINT = 0xa5 };
+enum { LIMIT = 8192, NAMES_LIMIT = 65536, STACK = 1 << 18, PAINT = 0xa5 };
 
 static uint8_t painted[STACK];
 static ucontext_t back, there;
-static size_t deepest;
-static const char *deepest_call;
 static int telling, failed;
+
+/* The calls that share a limit, and which of them went deepest. */
+struct depth {
+    size_t limit, deepest;
+    const char *call;
+};
+static struct depth most = {LIMIT, 0, ""}, reading_names = {NAMES_LIMIT, 0, ""};
 
 /* How many bytes have lost their paint, counted from the top, where a stack begins. */
 static size_t used_bytes(void) {
@@ -24,7 +30,7 @@ static size_t used_bytes(void) {
     return sizeof painted - untouched;
 }
 
-static void measure(const char *call, void (*run)(void)) {
+static void measure_in(struct depth *of, const char *call, void (*run)(void)) {
     memset(painted, PAINT, sizeof painted);
     getcontext(&there);
     there.uc_stack.ss_sp = painted;
@@ -34,23 +40,29 @@ static void measure(const char *call, void (*run)(void)) {
     swapcontext(&back, &there);
     size_t used = used_bytes();
     if (telling) printf("%6zu  %s\n", used, call);
-    if (used > deepest) {
-        deepest = used;
-        deepest_call = call;
+    if (used > of->deepest) {
+        of->deepest = used;
+        of->call = call;
     }
 }
+
+static void measure(const char *call, void (*run)(void)) { measure_in(&most, call, run); }
 
 /* What the calls are lent, and what they give. */
 static bks_registry r;
 static bks_endpoint a, b;
 static uint8_t frame[700], out[BKS_REGISTRY_OUTPUT], to_b[BKS_ENDPOINT_OUTPUT], to_a[BKS_ENDPOINT_OUTPUT], digest[16], text[4096], name[255];
-static size_t frame_len, part_at;
+static uint8_t reply[BKS_REGISTRY_OUTPUT], extra[128];
+static size_t frame_len, part_at, reply_len;
 static uint32_t connection, slot, refusal;
 static bks_written written;
 static bks_answered answered;
 static bks_started started;
 static bks_arrived arrived;
 static bks_registration entry;
+static bks_alive2_reply registered;
+static bks_port2_reply found;
+static bks_names_reply listed;
 static bks_slot seen;
 static bks_own own;
 static bool told;
@@ -64,6 +76,14 @@ static void registry_close(void) { told = bks_registry_close(&r, connection); }
 static void registry_entry(void) { entry = bks_registry_entry(&r, 63); }
 static void registry_next(void) { refusal = bks_registry_next(&r); }
 static void registry_port(void) { refusal = bks_registry_port(&r); }
+static void alive2_request(void) {
+    written = bks_alive2_request(4370, 77, 0, 6, 5, name, sizeof name, extra, sizeof extra, out, sizeof out);
+}
+static void port_please2_request(void) { written = bks_port_please2_request(name, sizeof name, out, sizeof out); }
+static void names_request(void) { written = bks_names_request(out, sizeof out); }
+static void read_alive2(void) { registered = bks_read_alive2(reply, reply_len); }
+static void read_port2(void) { found = bks_read_port2(reply, reply_len); }
+static void read_names(void) { listed = bks_read_names(reply, reply_len); }
 static void endpoint_new(void) { refusal = bks_endpoint_new(&a, name, sizeof name, FLAGS, 7); }
 static void start(void) { started = bks_endpoint_start(&a, (const uint8_t *)"c@d", 3, to_b, sizeof to_b); }
 static void arrive(void) { arrived = bks_endpoint_arrive(&b); }
@@ -101,6 +121,12 @@ static void alive2(uint32_t of) {
     connection = of;
 }
 
+/* What the mapper has just written is the reply to be read. */
+static void take_reply(void) {
+    memcpy(reply, out, written.written);
+    reply_len = written.written;
+}
+
 static void mapper(void) {
     measure("bks_registry_new", registry_new);
     for (uint32_t i = 0; i < BKS_PLACES; i++) {
@@ -109,6 +135,9 @@ static void mapper(void) {
     }
     measure("bks_registry_request: ALIVE2, the last place", request);
     expect(written.written == 6 && out[1] == 0, "registered");
+    take_reply();
+    measure("bks_read_alive2", read_alive2);
+    expect(registered.tag == BKS_ALIVE2_X_RESP && registered.creation == BKS_PLACES, "a creation");
     connection = 99;
     measure("bks_registry_request: ALIVE2, Result 1", request);
     expect(written.written == 6 && out[1] == 1, "not registered");
@@ -117,12 +146,18 @@ static void mapper(void) {
     frame_len = 258;
     measure("bks_registry_request: PORT_PLEASE2, last of 64", request);
     expect(written.written == 14 + 255 + 128 && out[1] == 0, "found");
+    take_reply();
+    measure("bks_read_port2", read_port2);
+    expect(found.refusal == 0 && found.name_len == 255 && found.extra_len == 128, "a node");
     frame[257] = 'x';
     measure("bks_registry_request: PORT_PLEASE2, none", request);
     expect(written.written == 2, "not found");
     frame[0] = 0, frame[1] = 1, frame[2] = 110, frame_len = 3;
     measure("bks_registry_request: NAMES, 64 of 255 bytes", request);
     expect(written.written == BKS_REGISTRY_OUTPUT - 64, "64 names, ports of four digits");
+    take_reply();
+    measure_in(&reading_names, "bks_read_names: 64 of 255 bytes", read_names);
+    expect(listed.refusal == 0 && listed.count == BKS_PLACES, "64 lines");
     frame_len = 2;
     measure("bks_registry_request: refused", request);
     expect(written.refusal == BKS_REFUSED_NOT_A_FRAME, "no frame");
@@ -135,7 +170,35 @@ static void mapper(void) {
     expect(told, "closed");
 }
 
+/* The same line as many times as said. */
+static void repeat(const char *line, size_t times) {
+    reply_len = 4;
+    memset(reply, 0, reply_len);
+    for (; times > 0; times--) {
+        memcpy(reply + reply_len, line, strlen(line));
+        reply_len += strlen(line);
+    }
+}
+
+static void client(void) {
+    memset(name, 'n', sizeof name);
+    measure("bks_alive2_request", alive2_request);
+    expect(written.written == BKS_REQUEST_OUTPUT, "the longest request");
+    measure("bks_port_please2_request", port_please2_request);
+    expect(written.written == 258, "the longest name");
+    measure("bks_names_request", names_request);
+    expect(written.written == 3, "a request for names");
+    repeat("name a at port 1\n", 959);
+    measure_in(&reading_names, "bks_read_names: more than one reading", read_names);
+    expect(listed.refusal == BKS_REFUSED_AMBIGUOUS, "959 pieces, 15 to a line at most");
+    repeat("name at port 3\n", 1173);
+    measure_in(&reading_names, "bks_read_names: no reading", read_names);
+    expect(listed.refusal == BKS_REFUSED_BAD_LENGTH, "too many lines even joined");
+}
+
 static void handshake(void) {
+    memset(name, 'a', sizeof name);
+    name[100] = '@';
     measure("bks_endpoint_new", endpoint_new);
     expect(refusal == 0, "made");
     bks_endpoint_new(&b, (const uint8_t *)"c@d", 3, FLAGS, 8);
@@ -185,6 +248,7 @@ static void handshake(void) {
 static void all(void) {
     measure("(a call of nothing)", nothing);
     mapper();
+    client();
     handshake();
     measure("bks_md5, 4096 bytes", md5);
     measure("bks_node_name_ok", node_name_ok);
@@ -192,14 +256,17 @@ static void all(void) {
     measure("bks_compare", compare);
 }
 
+static void judge(const struct depth *of) {
+    if (of->deepest > of->limit) failed = 1;
+    printf("stack: %s: %zu bytes at most (%s), %zu allowed\n", failed ? "failed" : "ok", of->deepest, of->call, of->limit);
+}
+
 int main(void) {
-    memset(name, 'a', sizeof name);
     memset(cookie, 'c', sizeof cookie);
-    name[100] = '@';
     all(); /* the loader binds what is called for the first time, on the caller's stack */
-    deepest = 0, telling = 1;
+    most.deepest = reading_names.deepest = 0, telling = 1;
     all();
-    if (deepest > LIMIT) failed = 1;
-    printf("stack: %s: %zu bytes at most (%s), %d allowed\n", failed ? "failed" : "ok", deepest, deepest_call, (int)LIMIT);
+    judge(&most);
+    judge(&reading_names);
     return failed;
 }

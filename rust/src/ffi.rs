@@ -8,9 +8,11 @@
 
 #![allow(non_camel_case_types)]
 
+mod client;
 mod endpoint;
 mod registry;
 
+pub use client::*;
 pub use endpoint::*;
 pub use registry::*;
 

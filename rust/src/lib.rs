@@ -2,6 +2,7 @@
 //! a safe wrapper around the proved library `libbirkenschuh.a`.
 //!
 //! - [`Registry`] answers requests to the port mapper.
+//! - [`client`] writes those requests and reads the replies: a node's end of the mapper.
 //! - [`Endpoint`] runs handshakes, as initiator and as acceptor.
 //! - [`md5`], [`is_node_name`], [`is_full_name`] and [`compare`] are the parts below them that a host
 //!   may want too.
@@ -24,6 +25,7 @@
 
 #![warn(missing_docs)]
 
+pub mod client;
 mod endpoint;
 pub mod ffi;
 mod refusal;

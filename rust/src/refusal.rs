@@ -3,7 +3,7 @@
 use std::error::Error;
 use std::fmt;
 
-/// Why a call was refused. The discriminants are the numbers of the specification (01).
+/// Why a call was refused. The discriminants are the numbers of the specification (01, and 20 of 02).
 ///
 /// A refused call has written no output, and nothing else has changed; but a message that is refused
 /// may have freed the slot that it came in on, which [`Refused`] tells.
@@ -25,9 +25,10 @@ pub enum Refusal {
     SlotNotTaken = 2,
     /// The lent bytes are not exactly one frame.
     NotAFrame = 3,
-    /// The body's first byte is not served, or not at this stage.
+    /// The first byte of a body is not served, or not at this stage; or a reply is another's.
     UnknownTag = 4,
-    /// The length disagrees with the fields, or the extra field has more than 128 bytes.
+    /// The length disagrees with the fields, or the extra field has more than 128 bytes; or a NAMES
+    /// reply has no reading.
     BadLength = 5,
     /// The name breaks its rule, or is not the expected one.
     BadName = 6,
@@ -53,11 +54,13 @@ pub enum Refusal {
     Declined = 16,
     /// A registry's first creation must not be 0.
     ZeroCreation = 17,
+    /// A NAMES reply that can be read in more than one way: a name may hold what looks like lines.
+    Ambiguous = 20,
 }
 
 impl Refusal {
     /// All refusals, in the order of their numbers.
-    pub const ALL: [Refusal; 17] = [
+    pub const ALL: [Refusal; 18] = [
         Refusal::OutputTooShort,
         Refusal::SlotNotTaken,
         Refusal::NotAFrame,
@@ -75,21 +78,23 @@ impl Refusal {
         Refusal::WrongDigest,
         Refusal::Declined,
         Refusal::ZeroCreation,
+        Refusal::Ambiguous,
     ];
 
-    /// The number of this refusal, 1 to 17.
+    /// The number of this refusal, 1 to 17 or 20.
     pub fn number(self) -> u32 {
         self as u32
     }
 
     /// What the library's number means: 0 is no refusal.
     pub(crate) fn check(number: u32) -> Result<(), Refusal> {
-        match number {
-            0 => Ok(()),
-            number => match Refusal::ALL.get(number as usize - 1) {
-                Some(&refusal) => Err(refusal),
-                None => unreachable!("the library gave the refusal {number}"),
-            },
+        if number == 0 {
+            return Ok(());
+        }
+        let mut all = Refusal::ALL.into_iter();
+        match all.find(|refusal| refusal.number() == number) {
+            Some(refusal) => Err(refusal),
+            None => unreachable!("the library gave the refusal {number}"),
         }
     }
 }
@@ -114,6 +119,7 @@ impl fmt::Display for Refusal {
             Refusal::WrongDigest => "the digest is wrong",
             Refusal::Declined => "the peer declined",
             Refusal::ZeroCreation => "the first creation is 0",
+            Refusal::Ambiguous => "the reply can be read in more than one way",
         })
     }
 }
@@ -165,12 +171,12 @@ mod tests {
     use super::*;
 
     #[test]
-    fn numbers_are_those_of_01_in_order() {
+    fn numbers_are_those_of_the_papers_in_order() {
         let numbers: Vec<u32> = Refusal::ALL
             .iter()
             .map(|refusal| refusal.number())
             .collect();
-        assert_eq!(numbers, (1..=17).collect::<Vec<u32>>());
+        assert_eq!(numbers, (1..=17).chain([20]).collect::<Vec<u32>>());
         assert_eq!(Refusal::check(0), Ok(()));
         for refusal in Refusal::ALL {
             assert_eq!(Refusal::check(refusal.number()), Err(refusal));

@@ -5,8 +5,8 @@ use std::fmt;
 
 use crate::{ffi, ENDPOINT_SIZE, REGISTRY_SIZE};
 
-/// The library that was linked is of another version than this crate: a state would not have the
-/// size that the library takes it to have.
+/// The library that was linked is of another version than this crate: a state or an answer would not
+/// have the size that the library takes it to have.
 #[derive(Clone, Copy, Debug, PartialEq, Eq)]
 pub struct Mismatch {
     /// The boundary's version, as the library tells it.
@@ -35,7 +35,8 @@ impl fmt::Display for Mismatch {
 impl Error for Mismatch {}
 
 /// Compares the library that was linked with this crate. Making a [`Registry`](crate::Registry) or
-/// an [`Endpoint`](crate::Endpoint) does so too, and panics where they differ.
+/// an [`Endpoint`](crate::Endpoint) does so too, and each call of [`client`](crate::client), and
+/// panics where they differ.
 ///
 /// ```
 /// birkenschuh::check()?;
@@ -62,7 +63,7 @@ pub fn check() -> Result<(), Mismatch> {
     }
 }
 
-/// Stops before a state is made that the library would write past.
+/// Stops before a state or an answer is lent that the library would write past.
 pub(crate) fn demand() {
     if let Err(mismatch) = check() {
         panic!("{mismatch}");

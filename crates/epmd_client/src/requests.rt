@@ -17,7 +17,8 @@ ghost use Rattle.epmd_client_rules.specs.Requests.{alive2Frame, portPlease2Fram
 ghost use Rattle.epmd_client_rules.specs.Decision.{decided};
 
 // Where the fields of a frame are: behind its length stands its tag, and behind the tag the name of
-// PORT_PLEASE2_REQ or the fields of ALIVE2_REQ. Behind these stand its two runs, name and extra.
+// PORT_PLEASE2_REQ or the fields of ALIVE2_REQ. Behind these stand its two runs, name and extra; a
+// request whose runs are empty has LEAST bytes.
 const TAG: usize = 2;
 
 const BEHIND: usize = TAG + 1;
@@ -33,6 +34,8 @@ const HIGHEST: usize = PROTOCOL + 1;
 const LOWEST: usize = HIGHEST + 2;
 
 const RUNS: usize = LOWEST + 2;
+
+const LEAST: usize = RUNS + 4;
 
 // The last rule of each: the frame must fit.
 fn decide_room(size: usize, given: usize) -> Answer
@@ -56,7 +59,7 @@ fn decide_alive2(highest: u16, lowest: u16, name: &[u8], extra: &[u8], given: us
     if !versions_ok(highest, lowest) {
         return Answer::Refused(Refusal::BadVersions);
     }
-    decide_room(RUNS + 4 + name.len() + extra.len(), given)
+    decide_room(LEAST + name.len() + extra.len(), given)
 }
 
 fn decide_port_please2(name: &[u8], given: usize) -> Answer
@@ -113,11 +116,28 @@ fn put_alive2(
     requires { ⌜ (15 + length (now name) + length (now extra) ≤ length (now out)) × (length (now name) ≤ 255) × (length (now extra) ≤ 128) ⌝ }
     ensures { λ _. ⌜ now (out .exit) ≡ written (alive2Frame port kind protocol highest lowest (now (name .entry)) (now (extra .entry))) (now (out .entry)) ⌝ }
 {
-    let length = RUNS - TAG + 4 + name.len() + extra.len();
+    let length = LEAST - TAG + name.len() + extra.len();
     let head = alive2_head(length as u16, port, kind, protocol, highest, lowest);
     wire::put_bytes(out, 0, &head);
     let at = put_run(out, RUNS, name);
     put_run(out, at, extra);
+}
+
+fn put_port_please2(name: &[u8], out: &mut [u8])
+    requires { ⌜ (3 + length (now name) ≤ length (now out)) × (length (now name) ≤ 255) ⌝ }
+    ensures { λ _. ⌜ now (out .exit) ≡ written (portPlease2Frame (now (name .entry))) (now (out .entry)) ⌝ }
+{
+    let head = frame_head((1 + name.len()) as u16, 122);
+    wire::put_bytes(out, 0, &head);
+    wire::put_bytes(out, BEHIND, name);
+}
+
+fn put_names(out: &mut [u8])
+    requires { ⌜ 3 ≤ length (now out) ⌝ }
+    ensures { λ _. ⌜ now (out .exit) ≡ written namesFrame (now (out .entry)) ⌝ }
+{
+    let head = frame_head(1, 110);
+    wire::put_bytes(out, 0, &head);
 }
 
 // Writes ALIVE2_REQ, and tells the count written.
@@ -149,9 +169,7 @@ pub fn port_please2_request(name: &[u8], out: &mut [u8]) -> Answer
     let Answer::Written(count) = answer else {
         return answer;
     };
-    let head = frame_head((count - TAG) as u16, 122);
-    wire::put_bytes(out, 0, &head);
-    wire::put_bytes(out, BEHIND, name);
+    put_port_please2(name, out);
     Answer::Written(count)
 }
 
@@ -163,7 +181,6 @@ pub fn names_request(out: &mut [u8]) -> Answer
     let Answer::Written(count) = answer else {
         return answer;
     };
-    let head = frame_head(1, 110);
-    wire::put_bytes(out, 0, &head);
+    put_names(out);
     Answer::Written(count)
 }

@@ -24,6 +24,7 @@ use Rattle.epmd_client_rules.specs.Requests.{refused, alive2Frame, portP
 use Rattle.epmd_client_rules.specs.Replies.{resultIn, isAlive2Reply, alive2Long, creationIn, port2Long, fieldsIn, alive2Read, port2Read}
 use Rattle.epmd_client_rules.specs.Answers.{unreadableNumber, alive2Numbers, port2Numbers}
 use Rattle.epmd_client_rules.specs.Claims.{Alive2Gives, PortPlease2Gives, NamesGives, ReplyGives, RefusedExactly}
+use Rattle.epmd_client_rules.proofs.ReadingLaws.{read-exactly}
 use Rattle.epmd_client_rules.proofs.WritingLaws.{alive2-size, portPlease2-size, names-size}
 
 -- ---- writers: by the answers of their tests
@@ -89,4 +90,5 @@ refused-exactly =
           subst (λ (n : ℕ). ReplyGives (leb 1 (length b)) (eqb (tag b) 119) (eqb (length b) (cond (eqb (resultIn b) 0) n 2)) (port2Numbers (port2Read b) .refusal)) size
           (reply-gives (λ (r : Port2Reply). port2Numbers r .refusal) port2.Refused (cond (eqb (resultIn b) 0) (port2.Found (fieldsIn b)) (port2.Failed (resultIn b))) (λ u. refl)
           (port2-due (eqb (resultIn b) 0) (fieldsIn b) (resultIn b)) (leb 1 (length b)) (eqb (tag b) 119) (port2Long b));
+      names-reply = read-exactly;
     }

@@ -1,5 +1,7 @@
 pub mod WritingLaws
 pub mod ReplyLaws
+pub mod ReadingLaws
+pub mod Pairs
 pub mod Exactly
 pub mod Accepted
 pub mod Back

@@ -56,18 +56,17 @@ module _ (rules : List (Check Refusal)) (frame : List ℕ) (size given : ℕ) (e
   pub writes-frame : (n : ℕ) (out out' : List ℕ) → a ≡ Written n → out' ≡ written frame out → Writes (writing rules frame given) a out out'
   writes-frame n out out' r o = writes out out' (rw r o)
 
--- where a frame is written, every test held, and its size is told
+-- where a frame is written, every test held
 abbrev AllHold : List (Check Refusal) → Type 0
 AllHold [] = Unit
 AllHold ((holds else why) ∷ cs) = (holds ≡ true) × AllHold cs
 
-all-hold : (cs : List (Check Refusal)) (n m : ℕ) → firstRefusal Refused cs (Written n) ≡ Written m → AllHold cs × (m ≡ n)
-all-hold [] n m e = (tt, cc)
-all-hold ((true else why) ∷ cs) n m e = let p = all-hold cs n m e in ((refl, p .0), p .1)
+all-hold : (cs : List (Check Refusal)) (n m : ℕ) → firstRefusal Refused cs (Written n) ≡ Written m → AllHold cs
+all-hold [] n m e = tt
+all-hold ((true else why) ∷ cs) n m e = (refl, all-hold cs n m e)
 all-hold ((false else why) ∷ cs) n m e = let z : _≡_ {A = ℕ} 0 1 = cc in absurd (omega arith)
 
-held : (rules : List (Check Refusal)) (size given m : ℕ) → decided rules size given ≡ Written m
-    → AllHold (rules ++ ((leb size given else OutputTooShort) ∷ [])) × (m ≡ size)
+held : (rules : List (Check Refusal)) (size given m : ℕ) → decided rules size given ≡ Written m → AllHold (rules ++ ((leb size given else OutputTooShort) ∷ []))
 held rules size given m e = all-hold (rules ++ ((leb size given else OutputTooShort) ∷ [])) size m e
 
 -- by the writer's own answer: what it wrote is its frame, and every rule held
@@ -76,7 +75,7 @@ pub wrote : (rules : List (Check Refusal)) (frame : List ℕ) (given m : ℕ) �
 wrote rules frame given m e =
     let w = by-answer (rules ++ ((leb (length frame) given else OutputTooShort) ∷ [])) (length frame) frame in
     let d : decided rules (length frame) given ≡ Written m = own frame (decided rules (length frame) given) ∙ ap (λ (x : Writing). x .answer) (sym w) ∙ e in
-    (held rules (length frame) given m d .0, ap (λ (x : Writing). x .bytes) w ∙ ap (λ (a : Answer). doing frame a .bytes) d)
+    (held rules (length frame) given m d, ap (λ (x : Writing). x .bytes) w ∙ ap (λ (a : Answer). doing frame a .bytes) d)
 
 -- ---- ALIVE2_REQ: the head, the name behind Nlen, the extra bytes behind Elen
 
@@ -87,7 +86,7 @@ module _ (highest lowest : ℕ) (name extra : List ℕ) where
   pub alive2-held : (given m : ℕ) → decided (alive2Rules highest lowest name extra) alive2Size given ≡ Written m
       → (alive2Size ≤ given) × (length name ≤ 255) × (length extra ≤ 128)
   alive2-held given m e =
-      let h = held (alive2Rules highest lowest name extra) alive2Size given m e .0 in
+      let h = held (alive2Rules highest lowest name extra) alive2Size given m e in
       (leb-true alive2Size given (h .1 .1 .1 .0), name-short name (h .1 .0), leb-true (length extra) 128 (h .0))
 
 module _ (port kind protocol highest lowest : ℕ) (name extra : List ℕ) where
@@ -117,10 +116,10 @@ module _ (port kind protocol highest lowest : ℕ) (name extra : List ℕ) where
 -- ---- PORT_PLEASE2_REQ and NAMES_REQ: a length and a tag, and the name
 
 pub portPlease2-held : (name : List ℕ) (given m : ℕ) → decided (portPlease2Rules name) (3 + length name) given ≡ Written m
-    → (3 + length name ≤ given) × (length name ≤ 255) × (m ≡ 3 + length name)
+    → (3 + length name ≤ given) × (length name ≤ 255)
 portPlease2-held name given m e =
     let h = held (portPlease2Rules name) (3 + length name) given m e in
-    (leb-true (3 + length name) given (h .0 .1 .0), name-short name (h .0 .0), h .1)
+    (leb-true (3 + length name) given (h .1 .0), name-short name (h .0))
 
 pub portPlease2-split : (name : List ℕ) → (be 2 (1 + length name) ++ encode portPlease2Req (int 122 ∷ [])) ++ name ≡ portPlease2Frame name
 unfolding portPlease2Frame
@@ -130,7 +129,7 @@ pub portPlease2-size : (name : List ℕ) → length (portPlease2Frame name) ≡ 
 portPlease2-size name = ap length (sym (portPlease2-split name)) ∙ omega arith
 
 pub names-held : (given m : ℕ) → decided [] 3 given ≡ Written m → 3 ≤ given
-names-held given m e = leb-true 3 given (held [] 3 given m e .0 .0)
+names-held given m e = leb-true 3 given (held [] 3 given m e .0)
 
 pub names-head : be 2 1 ++ encode namesReq (int 110 ∷ []) ≡ namesFrame
 unfolding namesFrame framed

@@ -34,6 +34,7 @@ use Rattle.epmd_client_rules.specs.Requests.{Writing, alive2Writing, por
 use Rattle.epmd_client_rules.specs.Replies.{resultIn, nameIn, extraIn, alive2Read, port2Read}
 use Rattle.epmd_client_rules.specs.Readings.{Line, Reading, listed, notListed, Tells}
 use Rattle.epmd_client_rules.specs.Answers.{alive2Numbers, port2Numbers}
+use Rattle.epmd_client_rules.specs.ReadingClaims.{ToldOnce, LinesLie, ReadExactly, PairAmbiguous}
 
 -- ---- "a request written from allowed fields is accepted as those fields"
 
@@ -184,6 +185,7 @@ pub record RefusedExactly : Type 0 where
       → ReplyGives (leb 1 (length b)) (eqb (tag b) 118 || eqb (tag b) 121) (eqb (length b) (alive2Size b)) (alive2Numbers (alive2Read b) .refusal)
   pub port2-reply : (b : List ℕ)
       → ReplyGives (leb 1 (length b)) (eqb (tag b) 119) (eqb (length b) (port2Size b)) (port2Numbers (port2Read b) .refusal)
+  pub names-reply : ReadExactly
 
 -- ---- all of it (Promises.promises): a claim that is not proved is missed here
 
@@ -193,3 +195,6 @@ pub record Promises : Type 0 where
   pub asked-and-read : AskedAndRead
   pub parts-lie : PartsLie
   pub refused-exactly : RefusedExactly
+  pub told-once : ToldOnce
+  pub lines-lie : LinesLie
+  pub pair-ambiguous : PairAmbiguous

@@ -3,4 +3,5 @@ pub mod Decision
 pub mod Replies
 pub mod Readings
 pub mod Answers
+pub mod ReadingClaims
 pub mod Claims

@@ -1,4 +1,5 @@
 // Replies (01, The mapper), written from the first byte of the output on.
+use crate::runs::put_run;
 ghost use mathlib.Core.Path.{_≡_};
 ghost use Prim.Native.Nat.{_+_, _≤_};
 ghost use mathlib.Core.List.{[], _∷_};
@@ -102,14 +103,10 @@ pub fn put_port2_found(
     ensures { λ _. ⌜ now (out .exit) ≡ written (port2With port kind protocol highest lowest (now (name .entry)) (now (extra .entry))) (now (out .entry)) ⌝ }
 {
     let n = name.len();
-    let e = extra.len();
     let head = port2_head(port, kind, protocol, highest, lowest, n as u16);
-    let elen = wire::be16(e as u16);
     wire::put_bytes(out, 0, &head);
     wire::put_bytes(out, 12, name);
-    wire::put_bytes(out, 12 + n, &elen);
-    wire::put_bytes(out, 14 + n, extra);
-    14 + n + e
+    put_run(out, 12 + n, extra)
 }
 
 // Writes "not found", and tells its length.

@@ -168,3 +168,22 @@ module _ {A : Type 0} (read : List ℕ → A) (write : A → List ℕ) (w : ℕ)
       (table-only n (o + w) b (omega (arith, l, suc-mul n w)) (λ i k. let s : o + suc i * w ≡ o + w + i * w = omega (arith, suc-mul i w) in subst (λ (j : ℕ). write (read (take w (drop j b))) ≡ take w (drop j b)) s (h (suc i) (omega arith)))
       ∙ sym (drop-drop w o b))
       ∙ take-append-drop w (drop o b)
+
+-- ---- two lists as one
+
+module _ {A : Type 0} where
+  pub bytes-append : (write : A → List ℕ) (xs ys : List A) → tableBytes write (xs ++ ys) ≡ tableBytes write xs ++ tableBytes write ys
+  unfolding tableBytes
+  bytes-append write [] ys = refl
+  bytes-append write (x ∷ xs) ys =
+      ap (λ (l : List ℕ). write x ++ l) (bytes-append write xs ys) ∙ sym (append-assoc (write x) (tableBytes write xs) (tableBytes write ys))
+
+  pub each-append : (P : A → Type 0) (xs ys : List A) → Each P xs → Each P ys → Each P (xs ++ ys)
+  unfolding Each
+  each-append P [] ys a b = b
+  each-append P (x ∷ xs) ys a b = (a .0, each-append P xs ys (a .1) b)
+
+  pub each-parts : (P : A → Type 0) (xs ys : List A) → Each P (xs ++ ys) → Each P xs × Each P ys
+  unfolding Each
+  each-parts P [] ys a = (tt, a)
+  each-parts P (x ∷ xs) ys a = let r : Each P xs × Each P ys = each-parts P xs ys (a .1) in ((a .0, r .0), r .1)

@@ -2,9 +2,11 @@
 //! the peer. What the buffers held before is said in docs/PERFORMANCE.md.
 
 mod calls;
+mod client;
 mod digests;
 mod handshake;
 mod mapper;
+mod plain;
 mod timing;
 
 fn main() {
@@ -13,6 +15,9 @@ fn main() {
     digests::md5();
     digests::names();
     mapper::mapper();
+    client::requests();
+    client::replies();
+    client::names();
     handshake::handshake();
     calls::calls();
 }

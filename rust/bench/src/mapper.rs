@@ -3,7 +3,7 @@
 use crate::timing::{row, Contender};
 use std::hint::black_box;
 
-fn frame(body: &[u8]) -> Vec<u8> {
+pub fn frame(body: &[u8]) -> Vec<u8> {
     let mut frame = (body.len() as u16).to_be_bytes().to_vec();
     frame.extend_from_slice(body);
     frame
@@ -22,7 +22,7 @@ fn port_please2(name: &[u8]) -> Vec<u8> {
 }
 
 /// Both mappers with the same nodes, node i on connection i.
-fn filled(names: &[Vec<u8>], out: &mut [u8]) -> (birkenschuh::Registry, model::Registry) {
+pub fn filled(names: &[Vec<u8>], out: &mut [u8]) -> (birkenschuh::Registry, model::Registry) {
     let mut ours = birkenschuh::Registry::new(4369, 1).expect("1 is a creation");
     let mut peer = model::Registry::new(4369, 1).expect("1 is a creation");
     for (i, name) in names.iter().enumerate() {

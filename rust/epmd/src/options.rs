@@ -9,37 +9,9 @@ use std::time::Duration;
 
 use crate::sys::Keepalive;
 
-pub const HELP: &str = "\
-birken-epmd: an Erlang port mapper (EPMD)
-
-  birken-epmd [OPTIONS]           serve
-  birken-epmd --names [OPTIONS]   ask a running mapper for its names
-
-  --address IP[,IP]       where to listen besides loopback, or whom to ask; may be given again
-                          (ERL_EPMD_ADDRESS; else 127.0.0.1 and ::1)
-  --port N                its port (ERL_EPMD_PORT; else 4369); 0 picks one and prints it
-  --allow-remote-registration
-                          callers of other machines may register too, not only ask
-  --state-dir PATH        where the mark is kept by which no creation comes again
-                          (STATE_DIRECTORY, XDG_STATE_HOME/birken-epmd, ~/.local/state/birken-epmd)
-  --no-state              no mark: creations by the clock, at most a thousand a second
-  --first-creation N      in place of the clock's number, 1 to 4294967295; a mark ahead of it wins
-  --max-connections N     when these are taken, a caller without a node leaves for the next (512)
-  --idle-timeout SECONDS  a connection without a node is closed after these (60)
-  --keepalive-idle, --keepalive-interval SECONDS, --keepalive-count N
-                          a node that is silent for 60 s is asked every 15 s whether it is there,
-                          and is gone after 4 questions without an answer
-  --quiet                 no log lines
-  --json                  log lines, or names, as JSON
-  --help, --version
-
-Sockets that systemd hands over (LISTEN_FDS) take the place of --address and --port.
-SIGTERM and SIGINT end it. Exit status: 0, 1 if it cannot serve or ask, 2 for bad options.
-";
-
 #[derive(Debug, Clone, PartialEq)]
 pub struct Options {
-    /// Whom `--names` asks.
+    /// Who is asked.
     pub address: IpAddr,
     /// Where to listen besides loopback.
     pub listen: Vec<IpAddr>,
@@ -68,6 +40,7 @@ pub enum State {
 pub enum Task {
     Serve(Options),
     Names(Options),
+    PortOf(String, Options),
     Help,
     Version,
 }
@@ -102,12 +75,22 @@ impl Options {
 #[derive(Default)]
 struct Given {
     names: bool,
+    port_of: Option<String>,
     address: bool,
     port: bool,
     state: bool,
-    /// An option that has no meaning for `--names`.
+    /// An option that has no meaning for one who asks.
     for_serving: Option<String>,
 }
+
+const FOR_ASKING: [&str; 6] = [
+    "--names",
+    "--port-of",
+    "--json",
+    "--quiet",
+    "--address",
+    "--port",
+];
 
 /// The task, or what is wrong in one line. `variable` gives a variable of the environment.
 pub fn parse(
@@ -134,16 +117,17 @@ pub fn parse(
             _ if takes_value(option) => set(&mut options, &mut given, option, value, &mut words)?,
             _ => return Err(unknown(&word)),
         }
-        if !["--names", "--json", "--quiet", "--address", "--port"].contains(&option) {
+        if !FOR_ASKING.contains(&option) {
             given.for_serving = Some(option.to_string());
         }
     }
     let variable = |name: &str| variable(name).filter(|value| !value.is_empty());
     complete(&mut options, &given, &variable)?;
-    match given.names {
-        true => Ok(Task::Names(options)),
-        false => Ok(Task::Serve(options)),
-    }
+    Ok(match given.port_of {
+        Some(name) => Task::PortOf(name, options),
+        None if given.names => Task::Names(options),
+        None => Task::Serve(options),
+    })
 }
 
 fn unknown(word: &str) -> String {
@@ -151,9 +135,10 @@ fn unknown(word: &str) -> String {
 }
 
 fn takes_value(option: &str) -> bool {
-    const OPTIONS: [&str; 9] = [
+    const OPTIONS: [&str; 10] = [
         "--address",
         "--port",
+        "--port-of",
         "--state-dir",
         "--first-creation",
         "--max-connections",
@@ -183,6 +168,7 @@ fn set(
             given.address = true;
         }
         "--port" => (options.port, given.port) = (number(option, value, 0..=65_535)?, true),
+        "--port-of" => given.port_of = Some(value.to_string()),
         "--state-dir" if value.is_empty() => return Err(format!("{option} needs a value")),
         "--state-dir" => (options.state, given.state) = (State::Folder(value.into()), true),
         "--first-creation" => {
@@ -206,14 +192,8 @@ fn complete(
     if let (false, Some(port)) = (given.port, variable("ERL_EPMD_PORT")) {
         options.port = number("ERL_EPMD_PORT", &port, 0..=65_535)?;
     }
-    if given.names {
-        options.address = options.listen.first().copied().unwrap_or(options.address);
-        return match &given.for_serving {
-            Some(option) => Err(format!("{option} does not go with --names")),
-            None if options.listen.len() > 1 => Err("--names asks one address".to_string()),
-            None if options.port == 0 => Err("--names needs a port to ask".to_string()),
-            None => Ok(()),
-        };
+    if given.names || given.port_of.is_some() {
+        return complete_asking(options, given);
     }
     if let (false, Some(list)) = (given.address, variable("ERL_EPMD_ADDRESS")) {
         options.listen = addresses("ERL_EPMD_ADDRESS", &list)?;
@@ -230,6 +210,20 @@ fn complete(
         options.state = State::Folder(state_folder(variable)?);
     }
     Ok(())
+}
+
+fn complete_asking(options: &mut Options, given: &Given) -> Result<(), String> {
+    options.address = options.listen.first().copied().unwrap_or(options.address);
+    let asks = if given.names { "--names" } else { "--port-of" };
+    match &given.for_serving {
+        Some(option) => Err(format!("{option} does not go with {asks}")),
+        None if given.names && given.port_of.is_some() => {
+            Err("--port-of does not go with --names".to_string())
+        }
+        None if options.listen.len() > 1 => Err(format!("{asks} asks one address")),
+        None if options.port == 0 => Err(format!("{asks} needs a port to ask")),
+        None => Ok(()),
+    }
 }
 
 /// Where programs of this user, or this service of the system, keep what is to last.

@@ -1,4 +1,5 @@
 use super::*;
+use crate::help::HELP;
 
 fn parse_in(line: &str, environment: &[(&str, &str)]) -> Result<Task, String> {
     let words = line.split_whitespace().map(str::to_string);
@@ -130,19 +131,46 @@ fn sockets_are_taken_over_when_they_are_meant_for_this_process() {
 }
 
 #[test]
-fn names_takes_only_what_concerns_it() {
-    let task = parse_line("--names --address 127.0.0.9 --port 14700 --json");
-    let asks = |it: &Options| it.port == 14_700 && it.json && it.address.to_string() == "127.0.0.9";
-    assert!(matches!(task, Ok(Task::Names(it)) if asks(&it)));
-    for bad in [
-        "--first-creation 4",
-        "--no-state",
-        "--allow-remote-registration",
-        "--port 0",
-        "--address ::1,127.0.0.1",
-    ] {
-        assert!(parse_line(&format!("--names {bad}")).is_err(), "{bad}");
+fn who_asks_takes_only_what_concerns_asking() {
+    let words = "--address 127.0.0.9 --port 14700 --json --quiet";
+    let right =
+        |it: &Options| it.port == 14_700 && it.json && it.address.to_string() == "127.0.0.9";
+    let task = parse_line(&format!("--names {words}"));
+    assert!(matches!(task, Ok(Task::Names(it)) if right(&it)));
+    let task = parse_line(&format!("{words} --port-of ride"));
+    assert!(matches!(task, Ok(Task::PortOf(name, it)) if name == "ride" && right(&it)));
+    for asks in ["--names", "--port-of ride"] {
+        for bad in [
+            "--first-creation 4",
+            "--no-state",
+            "--allow-remote-registration",
+            "--port 0",
+            "--address ::1,127.0.0.1",
+        ] {
+            let message = parse_line(&format!("{asks} {bad}")).expect_err(bad);
+            let option = asks.split(' ').next().unwrap();
+            assert!(message.contains(option), "{message}");
+        }
     }
+    assert!(parse_line("--names --port-of ride").is_err());
+}
+
+#[test]
+fn a_name_asked_for_is_taken_as_it_stands() {
+    for name in ["", "a=b", "--names", "ride@host", "é"] {
+        let words = ["--port-of".to_string(), name.to_string()];
+        let task = parse(words, |_| None);
+        assert!(
+            matches!(task, Ok(Task::PortOf(it, _)) if it == name),
+            "{name}"
+        );
+        let task = parse([format!("--port-of={name}")], |_| None);
+        assert!(
+            matches!(task, Ok(Task::PortOf(it, _)) if it == name),
+            "{name}"
+        );
+    }
+    assert!(parse_line("--port-of").is_err());
 }
 
 #[test]

@@ -1,9 +1,9 @@
-//! 01's table of refusals.
+//! 01's table of refusals, and 02's number 20.
 
-/// A refusal. The discriminant is its number in 01.
+/// A refusal. The discriminant is its number in 01 or 02.
 #[derive(Clone, Copy, Debug, PartialEq, Eq)]
 #[repr(u32)]
-#[allow(missing_docs)] // 01's table has them.
+#[allow(missing_docs)] // The papers have them.
 pub enum Refusal {
     OutputTooShort = 1,
     SlotNotTaken = 2,
@@ -22,10 +22,11 @@ pub enum Refusal {
     WrongDigest = 15,
     Declined = 16,
     ZeroCreation = 17,
+    Ambiguous = 20,
 }
 
 impl Refusal {
-    /// The number in 01's table.
+    /// The number in the papers.
     pub fn number(self) -> u32 {
         self as u32
     }

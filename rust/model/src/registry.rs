@@ -48,12 +48,24 @@ pub fn is_node_name(name: &[u8]) -> bool {
         && std::str::from_utf8(name).is_ok()
 }
 
-fn node_name(name: &[u8]) -> Result<(), Refusal> {
+pub(crate) fn node_name(name: &[u8]) -> Result<(), Refusal> {
     if is_node_name(name) {
         Ok(())
     } else {
         Err(Refusal::BadName)
     }
+}
+
+/// Whether a node may register these fields.
+pub(crate) fn allowed(name: &[u8], extra: &[u8], highest: u16, lowest: u16) -> Result<(), Refusal> {
+    if extra.len() > LONGEST_EXTRA {
+        return Err(Refusal::BadLength);
+    }
+    node_name(name)?;
+    if lowest > highest || lowest > 6 || highest < 5 {
+        return Err(Refusal::BadVersions);
+    }
+    Ok(())
 }
 
 impl Registry {
@@ -129,13 +141,7 @@ impl Registry {
         let name = fields.counted()?;
         let extra = fields.counted()?;
         fields.end()?;
-        if extra.len() > LONGEST_EXTRA {
-            return Err(Refusal::BadLength);
-        }
-        node_name(name)?;
-        if lowest > highest || lowest > 6 || highest < 5 {
-            return Err(Refusal::BadVersions);
-        }
+        allowed(name, extra, highest, lowest)?;
         let creation = self.register(Registration {
             connection,
             creation: self.next_creation,

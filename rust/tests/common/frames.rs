@@ -93,8 +93,16 @@ pub fn mend_length(frame: &mut [u8]) {
     }
 }
 
-/// Cut, lengthened, or with a few bits turned; half the time with the length made right again.
+/// Hurt; half the time with the length made right again.
 pub fn damage(rng: &mut Rng, frame: &mut Vec<u8>) {
+    hurt(rng, frame);
+    if rng.chance(50) {
+        mend_length(frame);
+    }
+}
+
+/// Cut, lengthened, or with a few bits turned.
+pub fn hurt(rng: &mut Rng, frame: &mut Vec<u8>) {
     match rng.below(6) {
         0 => frame.truncate(rng.below(frame.len() + 1)),
         1 => frame.truncate(frame.len().saturating_sub(1)),
@@ -116,9 +124,6 @@ pub fn damage(rng: &mut Rng, frame: &mut Vec<u8>) {
                 frame[at] = frame[at].wrapping_add(step);
             }
         }
-    }
-    if rng.chance(50) {
-        mend_length(frame);
     }
 }
 

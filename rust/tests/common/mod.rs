@@ -5,6 +5,8 @@
 
 pub mod differ;
 pub mod frames;
+pub mod names;
+pub mod node;
 pub mod rng;
 pub mod tally;
 

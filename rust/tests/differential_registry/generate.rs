@@ -4,47 +4,9 @@ use birkenschuh::REGISTRY_OUTPUT;
 
 use crate::calls::Call;
 use crate::common::frames::{damage, frame, noise, port_please2, Alive2};
+use crate::common::names::name;
 use crate::common::rng::Rng;
 
-/// Well-formed UTF-8 at the borders of RFC 3629's table.
-const GOOD: [&[u8]; 14] = [
-    b"a",
-    b"\x01",
-    b"\x7f",
-    b"\xc2\x80",
-    b"\xdf\xbf",
-    b"\xe0\xa0\x80",
-    b"\xe1\x80\x80",
-    b"\xec\xbf\xbf",
-    b"\xed\x9f\xbf",
-    b"\xee\x80\x80",
-    b"\xef\xbf\xbf",
-    b"\xf0\x90\x80\x80",
-    b"\xf3\xbf\xbf\xbf",
-    b"\xf4\x8f\xbf\xbf",
-];
-
-/// Just beyond those borders, cut short, or what a name may not have.
-const BAD: [&[u8]; 16] = [
-    b"\0",
-    b"@",
-    b"\x80",
-    b"\xbf",
-    b"\xc0\x80",
-    b"\xc1\xbf",
-    b"\xc2",
-    b"\xe0\x9f\xbf",
-    b"\xe2\x82",
-    b"\xed\xa0\x80",
-    b"\xf0\x8f\xbf\xbf",
-    b"\xf0\x9f\x98",
-    b"\xf4\x90\x80\x80",
-    b"\xf5\x80\x80\x80",
-    b"\xe2\x82\x41",
-    b"\xff",
-];
-
-const NAME_LENGTHS: [usize; 9] = [0, 1, 2, 253, 254, 255, 256, 257, 300];
 const EXTRA_LENGTHS: [usize; 7] = [0, 1, 126, 127, 128, 129, 200];
 const VERSIONS: [u16; 8] = [0, 4, 5, 6, 7, 255, 256, 65_535];
 
@@ -151,32 +113,6 @@ impl Generator {
         }
         request.frame()
     }
-}
-
-/// A name of pieces at UTF-8's borders, of a length at the rule's borders; sometimes not a name.
-pub fn name(rng: &mut Rng) -> Vec<u8> {
-    let length = if rng.chance(30) {
-        *rng.pick(&NAME_LENGTHS)
-    } else {
-        1 + rng.below(12)
-    };
-    let mut name = Vec::new();
-    let plain = rng.chance(50);
-    while name.len() < length {
-        let piece = if plain {
-            &[b'a' + rng.below(26) as u8][..]
-        } else {
-            rng.pick(&GOOD)
-        };
-        let fits = name.len() + piece.len() <= length;
-        name.extend_from_slice(if fits { piece } else { b"z" });
-    }
-    if rng.chance(8) {
-        let bad = *rng.pick(&BAD);
-        let at = rng.below(name.len() + 1);
-        name.splice(at..at, bad.iter().copied());
-    }
-    name
 }
 
 /// Any tag before a little of anything.

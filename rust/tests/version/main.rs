@@ -1,9 +1,20 @@
-//! A library of another version is told, and no call comes to it. The library here is a small one in
-//! C that says of itself what the test wants; the example `version` and a host in C are linked with
-//! it.
+//! A library of another version is told, and no state and no struct is lent to it. The library here is
+//! a small one in C that says of itself what the test wants; the example `version` and a host in C are
+//! linked with it.
 
 use std::path::{Path, PathBuf};
 use std::process::{Command, Output};
+
+/// What the example can be asked to make, and the calls that need no state.
+const STATES: [&str; 4] = ["registry", "endpoint", "stored registry", "stored endpoint"];
+const CALLS: [&str; 6] = [
+    "write names",
+    "write port_please2",
+    "write alive2",
+    "read names",
+    "read port2",
+    "read alive2",
+];
 
 /// Runs to its end, which must be a success.
 fn run(command: &mut Command) {
@@ -39,14 +50,14 @@ fn example() -> PathBuf {
     folder.join("target/debug/examples/version")
 }
 
-fn made(example: &Path, other: &str, state: &str) -> Output {
+fn made(example: &Path, other: &str, asked: &str) -> Output {
     let mut command = Command::new(example);
-    command.arg(state).env("OTHER", other);
+    command.arg(asked).env("OTHER", other);
     command.output().expect("the example was built")
 }
 
 #[test]
-fn another_version_is_told_before_a_state_is_made() {
+fn another_version_is_told_before_a_state_or_such_a_call_is_made() {
     let example = example();
     for (other, says) in [
         (
@@ -62,8 +73,8 @@ fn another_version_is_told_before_a_state_is_made() {
             "boundary version 1, with states of 25670 and 9232 bytes",
         ),
     ] {
-        for state in ["registry", "endpoint", "stored registry", "stored endpoint"] {
-            let output = made(&example, other, state);
+        for asked in STATES.into_iter().chain(CALLS) {
+            let output = made(&example, other, asked);
             let told = String::from_utf8_lossy(&output.stdout);
             let cried = String::from_utf8_lossy(&output.stderr);
             assert!(told.contains(says), "{told}");

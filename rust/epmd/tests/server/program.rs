@@ -1,4 +1,4 @@
-//! Options, signals, the log, `--names`.
+//! Options, signals, the log, `--names`, `--port-of`.
 
 use std::io::Write;
 use std::sync::Arc;
@@ -82,29 +82,44 @@ fn sighup_is_ignored_with_a_line() {
 }
 
 #[test]
-fn names_prints_a_table_or_json() {
+fn who_asks_gets_names_and_ports() {
     let mapper = Mapper::start(&[]);
     let port = mapper.port.to_string();
     let ask = |words: &[&str]| {
-        let output = run(&[&["--names", "--port", &port], words].concat());
+        let output = run(&[&["--port", &port], words].concat());
         assert!(output.status.success());
         text(&output.stdout[..])
     };
-    assert_eq!(ask(&[]), "NAME   PORT\n");
-    let _nodes = [
-        register(mapper.port, "ride", 4370),
-        register(mapper.port, "é\n", 80),
-    ];
-    assert_eq!(ask(&[]), "NAME    PORT\nride    4370\n\"é\\n\"     80\n");
-    let json = "\"names\":[{\"name\":\"ride\",\"port\":4370},{\"name\":\"é\\n\",\"port\":80}]}\n";
-    assert_eq!(ask(&["--json"]), format!("{{\"port\":{port},{json}"));
+    assert_eq!(ask(&["--names"]), "NAME   PORT\n");
+    let _ride = register(mapper.port, "ride", 4370);
+    assert_eq!(ask(&["--names"]), "NAME   PORT\nride   4370\n");
+    let json = "\"names\":[{\"name\":\"ride\",\"port\":4370}]}\n";
+    assert_eq!(
+        ask(&["--names", "--json"]),
+        format!("{{\"port\":{port},{json}")
+    );
+    let _other = register(mapper.port, "é\n", 80);
+    let lines = "name ride at port 4370\nname é\n at port 80\n";
+    assert_eq!(ask(&["--names"]), lines);
+    let json = format!("\"ambiguous\":true,\"text\":{lines:?}}}\n");
+    assert_eq!(
+        ask(&["--names", "--json"]),
+        format!("{{\"port\":{port},{json}")
+    );
+    assert_eq!(ask(&["--port-of", "ride"]), "4370\n");
+    assert_eq!(ask(&["--port-of", "é\n"]), "80\n");
+    let output = run(&["--port", &port, "--port-of", "rid"]);
+    assert_eq!(output.status.code(), Some(1));
+    assert!(text(&output.stderr[..]).contains("registered as rid "));
 }
 
 #[test]
-fn names_of_nobody_gets_one_line_and_status_1() {
-    let output = run(&["--names", "--port", &free_port().to_string()]);
-    assert_eq!(output.status.code(), Some(1));
-    assert_eq!(text(&output.stderr[..]).lines().count(), 1);
+fn where_nobody_listens_who_asks_gets_one_line_and_status_1() {
+    for words in [&["--names"][..], &["--port-of", "ride"]] {
+        let output = run(&[words, &["--port", &free_port().to_string()]].concat());
+        assert_eq!(output.status.code(), Some(1));
+        assert_eq!(text(&output.stderr[..]).lines().count(), 1);
+    }
 }
 
 #[test]

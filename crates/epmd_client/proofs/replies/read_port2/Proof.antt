@@ -34,13 +34,13 @@ returns-4 c = search needs
 returns-5 : tie.Need-returns-5
 returns-5 c =
     let b = c .before .before .before .before .before .before .before .before .args .reply .now in
-    sym (failed-length b (omega arith) (sym (c .before .before .before .before .before .get8 .ensures) ∙ c .before .before .before .before .if2 .left) (λ q. c .before .if4 .left (c .before .before .get82 .ensures ∙ q)) (c .if5 .taken))
+    sym (failed-length b (omega arith) (sym (c .before .before .before .before .before .get8 .ensures) ∙ c .before .before .before .before .if2 .left) (λ q. c .before .if4 .left (c .before .before .get82 .ensures ∙ q)) (λ q. omega arith))
 
 returns-6 : tie.Need-returns-6
 returns-6 c =
     let b = c .before .before .before .before .before .before .before .before .args .reply .now in
     let r = c .before .before .get82 .ensures in
-    ap Failed r ∙ sym (failed-told b (omega arith) (sym (c .before .before .before .before .before .get8 .ensures) ∙ c .before .before .before .before .if2 .left) (λ q. c .before .if4 .left (r ∙ q)) (c .if5 .left))
+    ap Failed r ∙ sym (failed-told b (omega arith) (sym (c .before .before .before .before .before .get8 .ensures) ∙ c .before .before .before .before .if2 .left) (λ q. c .before .if4 .left (r ∙ q)) (omega arith))
 
 pub read-port2-spec : {M : Type 1} → statement M
 read-port2-spec =

@@ -25,9 +25,6 @@ add-decide-room c = search needs
 add-decide-room-2 : tie.Need-add-decide-room-2
 add-decide-room-2 c = search needs
 
-add-decide-room-3 : tie.Need-add-decide-room-3
-add-decide-room-3 c = search needs
-
 decide-room-requires : tie.Need-decide-room-requires
 decide-room-requires c κs = search needs
 
@@ -45,6 +42,5 @@ decide-alive2-spec =
     returns-3
     add-decide-room
     add-decide-room-2
-    add-decide-room-3
     decide-room-requires
     returns-4)

@@ -1,12 +1,9 @@
-use mathlib.Core.Path.{refl, sym, ap, _∙_}
+use mathlib.Core.Path.{refl, sym, _∙_}
 use mathlib.Core.List.{[]}
-use native.Mathlib.Omega.{arith}
 use lib.ListN.{length}
-use Rattle.wire.specs.Output.{overwrite}
-use Rattle.wire.proofs.OutputLaws.{overwrite-front}
 use Rattle.epmd_rules.specs.declared.answer.Answer.the-variants.{Written}
 use Rattle.epmd_client_rules.specs.Requests.{namesFrame, namesWriting}
-use Rattle.epmd_client_rules.proofs.WritingLaws.{writes-none, writes-frame, names-held, names-head, names-size}
+use Rattle.epmd_client_rules.proofs.WritingLaws.{writes-none, writes-frame, names-held, names-size}
 use borrow.Author.Needs.{needs}
 use Rattle.epmd_client.proofs.requests.names_request.Statement.{statement}
 use Rattle.epmd_client.proofs.requests.names_request.Tie as tie
@@ -26,16 +23,9 @@ returns c =
     let o = c .before .before .before .before .args .out .now in
     writes-none [] namesFrame 3 (length o) names-size _ (c .before .before .decide-room .ensures) _ o (c .enum-told .given .1)
 
-frame-head-requires : tie.Need-frame-head-requires
-frame-head-requires c κs = search needs
-
-slice-aggregate-put-bytes : tie.Need-slice-aggregate-put-bytes
-slice-aggregate-put-bytes c = search needs
-
-put-bytes-requires : tie.Need-put-bytes-requires
-put-bytes-requires c κs =
-    let o = c .before .before .before .before .before .before .before .before .args .out .now in
-    omega (arith, names-held (length o) _ (sym (c .before .before .before .before .before .before .decide-room .ensures) ∙ c .before .before .before .before .answer .given .1), ap length (c .before .before .frame-head .ensures))
+put-names-requires : tie.Need-put-names-requires
+put-names-requires c κs =
+    names-held (length (c .before .before .before .before .before .before .args .out .now)) _ (sym (c .before .before .before .before .decide-room .ensures) ∙ c .before .before .answer .given .1)
 
 same-length : tie.Need-same-length
 same-length c = search needs
@@ -43,9 +33,8 @@ same-length c = search needs
 returns-2 : tie.Need-returns-2
 unfolding namesWriting
 returns-2 c =
-    let o = c .before .before .before .before .before .before .before .before .before .before .before .args .out .now in
-    let e = c .before .before .put-bytes .ensures ∙ ap (overwrite o 0) (c .before .before .before .before .before .frame-head .ensures ∙ names-head) ∙ overwrite-front o namesFrame in
-    writes-frame [] namesFrame 3 (length o) names-size (Written _) (sym (c .before .before .before .before .before .before .before .answer .given .1) ∙ c .before .before .before .before .before .before .before .before .before .decide-room .ensures) _ o _ refl e
+    let o = c .before .before .before .before .before .before .before .before .before .args .out .now in
+    writes-frame [] namesFrame 3 (length o) names-size (Written _) (sym (c .before .before .before .before .before .answer .given .1) ∙ c .before .before .before .before .before .before .before .decide-room .ensures) _ o _ refl (c .before .before .put-names .ensures)
 
 pub names-request-spec : {M : Type 1} → statement M
 names-request-spec =
@@ -55,8 +44,6 @@ names-request-spec =
     enum-known-answer
     enum-told
     returns
-    frame-head-requires
-    slice-aggregate-put-bytes
-    put-bytes-requires
+    put-names-requires
     same-length
     returns-2)

@@ -20,9 +20,6 @@ add-length c = search needs
 add-length-2 : tie.Need-add-length-2
 add-length-2 c = search needs
 
-add-length-3 : tie.Need-add-length-3
-add-length-3 c = search needs
-
 cast-alive2-head : tie.Need-cast-alive2-head
 cast-alive2-head c = search needs
 
@@ -64,7 +61,6 @@ put-alive2-spec =
     sub-length
     add-length
     add-length-2
-    add-length-3
     cast-alive2-head
     alive2-head-requires
     slice-aggregate-put-bytes

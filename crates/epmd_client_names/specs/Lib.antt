@@ -1,0 +1,4 @@
+pub mod Text
+pub mod Tallies
+pub mod Survey
+pub mod Walk
