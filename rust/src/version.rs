@@ -2,6 +2,7 @@
 
 use std::error::Error;
 use std::fmt;
+use std::sync::atomic::{AtomicBool, Ordering};
 
 use crate::{ffi, ENDPOINT_SIZE, REGISTRY_SIZE};
 
@@ -63,9 +64,14 @@ pub fn check() -> Result<(), Mismatch> {
     }
 }
 
-/// Stops before a state or an answer is lent that the library would write past.
+/// Stops before a state or an answer is lent that the library would write past. A library does not
+/// change while a program runs, so one that fits is asked once.
 pub(crate) fn demand() {
-    if let Err(mismatch) = check() {
-        panic!("{mismatch}");
+    static FITS: AtomicBool = AtomicBool::new(false);
+    if !FITS.load(Ordering::Relaxed) {
+        match check() {
+            Ok(()) => FITS.store(true, Ordering::Relaxed),
+            Err(mismatch) => panic!("{mismatch}"),
+        }
     }
 }

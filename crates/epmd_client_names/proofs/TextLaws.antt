@@ -2,10 +2,10 @@
 use Prim.Native.Nat.{ℕ, zero, suc, _+_, _*_, _-_, _≤_, _<_}
 use mathlib.Core.Path.{_≡_, refl, sym, ap, _∙_}
 use mathlib.Core.Bool.{Bool, true, false}
-use mathlib.Core.List.{List, _++_}
+use mathlib.Core.List.{List, _∷_, _++_}
 use native.Mathlib.Omega.{arith}
 use lib.ListN.{length, take, drop, getD, length-append, length-drop, length-take, take-append-drop, List·getD-eq-default}
-use lib.Seq.{take-at, drop-drop}
+use lib.Seq.{take-at, drop-drop, getD-drop}
 use lib.Dec.{ltb, eqb}
 use borrow.Author.Tests.{ltb-true, ltb-false, eqb-true, eqb-false, eq-eqb, ne-eqb, lt-ltb, le-ltb}
 use Rattle.wire.specs.Run.{part}
@@ -33,6 +33,15 @@ has-short s at w h l = same-length-ne (take (length w) (drop at s)) w (λ e. ome
 
 pub has-inside : (s : List ℕ) (at : ℕ) (w : List ℕ) → at ≤ length s → hasAt s at w ≡ true → at + length w ≤ length s
 has-inside s at w h e = omega (arith, ap length (has-true s at w e), length-append w (drop (at + length w) s), length-drop at s)
+
+-- another first byte than the word's
+pub has-other : (s : List ℕ) (at a : ℕ) (w : List ℕ) → (getD s at 0 ≡ a → ⊥) → hasAt s at (a ∷ w) ≡ false
+has-other s at a w h = by (hasAt s at (a ∷ w)) refl where
+  by : (t : Bool) → hasAt s at (a ∷ w) ≡ t → hasAt s at (a ∷ w) ≡ false
+  by true e =
+      let n : at + 0 ≡ at = omega arith in
+      absurd (h (ap (λ (k : ℕ). getD s k 0) (sym n) ∙ sym (getD-drop at s 0 0) ∙ ap (λ (l : List ℕ). getD l 0 0) (has-true s at (a ∷ w) e)))
+  by false e = e
 
 -- ---- ports
 

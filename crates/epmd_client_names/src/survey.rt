@@ -59,11 +59,17 @@ fn every(s: &[u8], p: usize, kinds: &[u8], few: &[u16]) -> Tally
     acc
 }
 
-// All readings from p on.
+// All readings from p on. At most places the first byte tells that no line begins there.
 fn place(s: &[u8], p: usize, kinds: &[u8], few: &[u16]) -> Tally
     requires { ⌜ Place (now s) p (now kinds) (now few) ⌝ }
     ensures { λ r. ⌜ Tallied (Lines (drop p (now (s .entry)))) (now (s .entry)) p (r .kind) (r .lines) ⌝ }
 {
+    if s[p] != 110 {
+        return Tally {
+            kind: NONE,
+            lines: 0,
+        };
+    }
     if crate::text::has(s, p, b"name ") {
         every(s, p, kinds, few)
     } else {

@@ -71,6 +71,8 @@ module _ (port kind protocol highest lowest : ℕ) (name extra : List ℕ) where
         let o = frame-of bytes (omega (arith, framed-length bytes, l)) (omega (arith, framed-length bytes, l)) in
         record {
           asked = λ given h. framed-body (framed bytes) given h (o .0) ∙ ap examineBody (o .1) ∙ asked;
+          named = ap (runAt alive2Req 6) (o .1) ∙ run-at 6;
+          speaks = ap (intAt alive2Req 4) (o .1) ∙ int-at 4;
           fields = λ connection creation. ap (registrationOf connection creation) (o .1) ∙ (λ i.
               record {
                 name = nameOf (run-at 6 i);

@@ -1,11 +1,11 @@
 -- Reading what a call of the mapper wrote, in every registry that calls can give (specs/Claims). Assumes nothing.
 use Prim.Native.Nat.{ℕ, suc, _≤_, _<_}
-use mathlib.Core.Path.{_≡_, refl, sym, ap, subst, _∙_}
+use mathlib.Core.Path.{_≡_, refl, sym, ap, ap₂, subst, _∙_}
 use mathlib.Core.Logic.{_⊎_, inl, inr}
 use mathlib.Core.Bool.{Bool, true, false, cond}
 use mathlib.Core.List.{List, [], _∷_, _++_}
 use native.Mathlib.Omega.{arith}
-use borrow.Author.Tests.{ne-eqb, lt-ltb, ltb-true, ltb-false, eqb-true, eqb-false}
+use borrow.Author.Tests.{leb-true, ne-eqb, lt-ltb, ltb-true, ltb-false, eqb-true, eqb-false}
 use lib.ListN.{length, getD}
 use lib.Dec.{eqb, ltb}
 use Rattle.wire.specs.Frame.{body}
@@ -13,6 +13,10 @@ use Rattle.wire.specs.Number.{be}
 use Rattle.wire.specs.Table.{tableBytes, Each}
 use Rattle.wire.specs.Layout.{behind, intAt, runAt}
 use Rattle.names.specs.Held.{nameBytes}
+use Rattle.names.proofs.HeldLaws.{name-back}
+use Rattle.names.proofs.NodeLaws.{name-short}
+use Rattle.epmd_rules.specs.declared.answer.Answer.the-variants.{Written}
+use Rattle.epmd_rules.specs.Requests.{alive2Rules}
 use Rattle.epmd_rules.specs.declared.registration.Registration.{Registration}
 use Rattle.epmd_rules.specs.declared.request.Request.the-variants.{Alive2, PortPlease2, Names}
 use Rattle.epmd_rules.specs.State.{Registry}
@@ -21,18 +25,19 @@ use Rattle.epmd_rules.specs.Registration.{free, isFree}
 use Rattle.epmd_rules.specs.Registry.{byName, byConnection, lowestFree, entryAt}
 use Rattle.epmd_rules.specs.Replies.{port2Found, port2Missing, port2Reply, nameLine, lineOf, nameLines, namesReply}
 use Rattle.epmd_rules.specs.Serve.{Outcome, resultOf, alive2Of, port2Of, namesOf, requestOf}
-use Rattle.epmd_rules.specs.Claims.{Reachable, PlaceSound}
+use Rattle.epmd_rules.specs.Claims.{Reachable, NumbersHeld, PlaceSound}
 use Rattle.epmd_rules.proofs.ServeLaws.{call-asked, alive2-fails, alive2-fills}
 use Rattle.epmd_rules.proofs.Found.{asked-found}
-use Rattle.epmd_rules.proofs.Reachable.{always-sound}
+use Rattle.epmd_rules.proofs.Reachable.{always-sound, registered-found, extra-back}
 use Rattle.epmd_client_rules.specs.declared.unreadable.Unreadable.the-variants.{Ambiguous}
 use Rattle.epmd_client_rules.specs.declared.reply.Alive2Reply.the-variants as alive2
 use Rattle.epmd_client_rules.specs.declared.reply.Port2Reply.the-variants as port2
 use Rattle.epmd_client_rules.specs.Replies.{alive2Read}
 use Rattle.epmd_client_rules.specs.declared.reply.NamesReply.{NamesReply}
 use Rattle.epmd_client_rules.specs.Readings.{linesText, Allowed, Reading, Reads, listed, notListed, Tells, none, several, only}
-use Rattle.epmd_client_rules.specs.Claims.{alive2Told, port2Told, Port2Back, linesIn, readingOf, ReplyRead, AskedAndRead}
-use Rattle.epmd_client_rules.specs.Requests.{portPlease2Writing}
+use Rattle.epmd_client_rules.specs.Claims.{registrationWith, alive2Told, port2Told, Port2Back, linesIn, readingOf, ReplyRead, AskedAndRead, RegisteredAndRead}
+use Rattle.epmd_client_rules.specs.Requests.{alive2Frame, alive2Writing, portPlease2Writing}
+use Rattle.epmd_client_rules.proofs.WritingLaws.{wrote}
 use Rattle.epmd_client_rules.proofs.Accepted.{request-accepted}
 use Rattle.epmd_client_rules.proofs.Back.{alive2-back, missing-read, registered-back}
 
@@ -152,3 +157,35 @@ asked-and-read r c i given given′ count reach h t room′ e =
     ∙ asked-found r i reach h t in
     subst (λ (x : List ℕ). Port2Back x i (entryAt r i)) (sym is)
     (record { told = back .told ∙ ap (λ (u : Bool). cond u (port2.Found (port2Told (entryAt r i))) (port2.Failed 1)) (sym (lt-ltb i 64 h)); name = λ l. back .name (omega arith); extra = λ l. back .extra (omega arith) })
+
+-- the fields that a writer wrote can be held
+written-held : (port kind protocol highest lowest : ℕ) (name extra : List ℕ) (given count : ℕ)
+    → alive2Writing port kind protocol highest lowest name extra given .answer ≡ Written count → (length name ≤ 255) × (length extra ≤ 128)
+unfolding alive2Writing
+written-held port kind protocol highest lowest name extra given count e =
+    let h = wrote (alive2Rules highest lowest name extra) (alive2Frame port kind protocol highest lowest name extra) given count e .0 in
+    (name-short name (h .1 .0), leb-true (length extra) 128 (h .0))
+
+pub registered-and-read : RegisteredAndRead
+unfolding port2Of
+registered-and-read r c asker port kind protocol highest lowest name extra given given′ count count′ reply reply′ reach fit e e′ z room₁ room₂ =
+    let frame = alive2Writing port kind protocol highest lowest name extra given .bytes in
+    let question = portPlease2Writing name given′ .bytes in
+    let p : Registration = registrationWith port kind protocol highest lowest name extra c (r .next) in
+    let t = request-accepted .alive2 port kind protocol highest lowest name extra given count fit e in
+    let q = request-accepted .port-please2 name given′ count′ e′ in
+    let h = written-held port kind protocol highest lowest name extra given count e in
+    let numbers : NumbersHeld p = record { port = fit .port-fits; kind = fit .kind-fits; protocol = fit .protocol-fits; highest = fit .highest-fits; lowest = fit .lowest-fits } in
+    let z′ : resultOf r c (runAt alive2Req 6 (body frame)) ≡ 0 = ap (resultOf r c) (t .named) ∙ z in
+    let r′ : Registry = requestOf r c frame reply .registry in
+    let is : requestOf r′ asker question reply′ .bytes ≡ port2Found p =
+    ap (λ (o : Outcome). o .bytes) (call-asked r′ asker question reply′ PortPlease2 (q .asked reply′ room₂))
+    ∙ ap (port2Reply r′) (q .sought ∙ sym (t .named))
+    ∙ registered-found r c frame reply reach (t .asked reply room₁) z′
+    ∙ ap port2Found (t .fields c (r .next)) in
+    record {
+      told-creation =
+          reply-read .alive2 r c frame reply reach (t .asked reply room₁)
+          ∙ ap₂ (λ (h k : ℕ). alive2Told h k (r .next)) (t .speaks) z′;
+      found-back = subst (λ (x : List ℕ). Port2Back x 0 p) (sym is) (registered-back p numbers (omega (arith, ap length (name-back name), h .0)) (omega (arith, ap length (extra-back extra), h .1)));
+    }

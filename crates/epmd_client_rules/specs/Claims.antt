@@ -46,22 +46,28 @@ pub record Fit (port kind protocol highest lowest : ℕ) : Type 0 where
   pub highest-fits : highest ≤ 65535
   pub lowest-fits : lowest ≤ 65535
 
--- the mapper takes the frame for a registration, whatever room it has for the reply, and what it registers has these fields
+-- the registration with these fields
+abbrev pub registrationWith : (port kind protocol highest lowest : ℕ) (name extra : List ℕ) (connection creation : ℕ) → Registration
+registrationWith port kind protocol highest lowest name extra connection creation =
+    record {
+      name = nameOf name;
+      extra = extraOf extra;
+      kind = kind;
+      protocol = protocol;
+      port = port;
+      highest = highest;
+      lowest = lowest;
+      connection = connection;
+      creation = creation;
+    }
+
+-- the mapper takes the frame for a registration, and what it registers has these fields
 pub record Alive2Taken (frame : List ℕ) (port kind protocol highest lowest : ℕ) (name extra : List ℕ) : Type 0 where
   pub asked : (given : ℕ) → room ≤ given → examineOf frame given ≡ Alive2
+  pub named : runAt alive2Req 6 (body frame) ≡ name
+  pub speaks : intAt alive2Req 4 (body frame) ≡ highest
   pub fields : (connection creation : ℕ)
-      → registrationOf connection creation (body frame)
-      ≡ record {
-        name = nameOf name;
-        extra = extraOf extra;
-        kind = kind;
-        protocol = protocol;
-        port = port;
-        highest = highest;
-        lowest = lowest;
-        connection = connection;
-        creation = creation;
-      }
+      → registrationOf connection creation (body frame) ≡ registrationWith port kind protocol highest lowest name extra connection creation
 
 -- for a question, and it looks for this name
 pub record PortPlease2Taken (frame name : List ℕ) : Type 0 where
@@ -131,6 +137,21 @@ AskedAndRead =
     → portPlease2Writing (nameBytes (entryAt r i .name)) given .answer ≡ Written count
     → Port2Back (requestOf r c (portPlease2Writing (nameBytes (entryAt r i .name)) given .bytes) given′ .bytes) i (entryAt r i)
 
+-- both ends, and two nodes: where a node registers with Result 0, it reads its creation, and whoever asks for it then reads what it registered with
+-- (Called.registered-and-read)
+pub record Registered (told found : List ℕ) (creation : ℕ) (p : Registration) : Type 0 where
+  pub told-creation : alive2Read told ≡ alive2Told (p .highest) 0 creation
+  pub found-back : Port2Back found 0 p
+
+abbrev pub RegisteredAndRead : Type 0
+RegisteredAndRead =
+    (r : Registry) (c asker port kind protocol highest lowest : ℕ) (name extra : List ℕ) (given given′ count count′ reply reply′ : ℕ) → Reachable r
+    → Fit port kind protocol highest lowest → alive2Writing port kind protocol highest lowest name extra given .answer ≡ Written count
+    → portPlease2Writing name given′ .answer ≡ Written count′ → resultOf r c name ≡ 0 → room ≤ reply → room ≤ reply′
+    → Registered (requestOf r c (alive2Writing port kind protocol highest lowest name extra given .bytes) reply .bytes)
+    (requestOf (requestOf r c (alive2Writing port kind protocol highest lowest name extra given .bytes) reply .registry) asker (portPlease2Writing name given′ .bytes) reply′ .bytes)
+    (r .next) (registrationWith port kind protocol highest lowest name extra c (r .next))
+
 -- ---- replies of any kind
 
 -- the name and the extra bytes that are told are the reply's own (Back.parts-lie)
@@ -193,6 +214,7 @@ pub record Promises : Type 0 where
   pub request-accepted : RequestAccepted
   pub reply-read : ReplyRead
   pub asked-and-read : AskedAndRead
+  pub registered-and-read : RegisteredAndRead
   pub parts-lie : PartsLie
   pub refused-exactly : RefusedExactly
   pub told-once : ToldOnce

@@ -79,7 +79,7 @@ free-numbers : NumbersHeld free
 unfolding free
 free-numbers = record { port = omega arith; kind = omega arith; protocol = omega arith; highest = omega arith; lowest = omega arith }
 
-extra-back : (bs : List ℕ) → extraBytes (extraOf bs) ≡ bs
+pub extra-back : (bs : List ℕ) → extraBytes (extraOf bs) ≡ bs
 unfolding extraOf extraBytes
 extra-back bs = take-at bs (replicate (128 - length bs) 0) (length bs) refl
 

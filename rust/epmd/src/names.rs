@@ -10,7 +10,9 @@ use crate::show;
 const IN_MORE_THAN_ONE_WAY: &str =
     "this can be read in more than one way, since a name may hold a \
                                     newline; --port-of NAME asks for one name";
-const UNREADABLE: &str = "the reply is cut short, is none to NAMES, or has more than 64 names";
+const UNREADABLE: &str =
+    "the reply is cut short, is none to NAMES, has more than 64 names, or one \
+                          that breaks the rule of names";
 
 /// The names as a table or as one JSON object; the text of the reply where it does not tell them
 /// apart.

@@ -5,7 +5,9 @@ use std::process::Output;
 use crate::support::text;
 use crate::{ask_for, assert_failed, printed};
 
-const UNREADABLE: &str = ": the reply is cut short, is none to NAMES, or has more than 64 names";
+const UNREADABLE: &str =
+    ": the reply is cut short, is none to NAMES, has more than 64 names, or one \
+                          that breaks the rule of names";
 
 fn names_of(words: &[&str], reply: &[u8]) -> Output {
     ask_for(&[&["--names"], words].concat(), b"\x00\x01n", reply)
