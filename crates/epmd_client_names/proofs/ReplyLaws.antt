@@ -19,12 +19,12 @@ use Rattle.epmd_client_rules.specs.declared.reply.Listing.{Listing}
 use Rattle.epmd_client_rules.specs.declared.reply.Listing.the-variants.{Listed, Refused}
 use Rattle.epmd_client_rules.specs.declared.reply.LineAt.{LineAt}
 use Rattle.epmd_client_rules.specs.declared.reply.NamesReply.{NamesReply}
-use Rattle.epmd_client_rules.specs.Readings.{Line, Reading, Reads, Tells, listed, notListed, most}
+use Rattle.epmd_client_rules.specs.Readings.{Line, Reading, Reads, Tells, listed, notListed, most, linesTold}
 use Rattle.epmd_client_rules.specs.Readings as readings
 use Rattle.epmd_client_names.specs.Text.{longest}
 use Rattle.epmd_client_names.specs.Tallies.{Least, Means, verdictOf}
 use Rattle.epmd_client_names.specs.Survey.{Lines}
-use Rattle.epmd_client_names.specs.Walk.{Lead, told, Walked}
+use Rattle.epmd_client_names.specs.Walk.{Lead, Walked}
 use Rattle.epmd_client_names.proofs.TallyLaws.{Fewest, fewest}
 use Rattle.epmd_client_names.proofs.LineLaws.{no-gap}
 use Rattle.epmd_client_names.proofs.SurveyLaws.{lines-short}
@@ -127,7 +127,7 @@ module _ (own : ℕ) (small : own ≤ 65535) (s : List ℕ) where
   pub told-walked : (k : ℕ) → Sole k → (es : List LineAt) → Walked s k es → Tells (be 4 own ++ s) (record { listing = Listed; port = own; count = k; lines = es })
   told-walked k z es w =
       let c : length (z .lines) ≡ k = z .lead .lines in
-      let l : told (z .lines) ≡ es = sym (w (z .lines) (z .lead)) in
+      let l : linesTold (z .lines) ≡ es = sym (w (z .lines) (z .lead)) in
       let e : listed (with (z .lines)) ≡ record { listing = Listed; port = own; count = k; lines = es } =
       λ i. record { listing = Listed; port = own; count = c i; lines = l i }
       in

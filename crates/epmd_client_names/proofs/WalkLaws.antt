@@ -13,13 +13,13 @@ use Rattle.wire.specs.Table.{tableBytes}
 use Rattle.wire.proofs.TableLaws.{bytes-append}
 use Rattle.epmd_rules.specs.Replies.{nameWord}
 use Rattle.epmd_client_rules.specs.declared.reply.LineAt.{LineAt}
-use Rattle.epmd_client_rules.specs.Readings.{Line, lineText, linesText, linesAt, noLine, most}
+use Rattle.epmd_client_rules.specs.Readings.{Line, lineText, linesText, linesAt, noLine, most, linesTold}
 use Rattle.epmd_client_names.specs.declared.text.Tail.the-variants.{Found}
 use Rattle.epmd_client_names.specs.declared.tally.Tally.{Tally}
 use Rattle.epmd_client_names.specs.Text.{hasAt, tailAt, NameEnds}
 use Rattle.epmd_client_names.specs.Tallies.{Means, leadsOf}
 use Rattle.epmd_client_names.specs.Survey.{Lines, FirstIs, FirstBelow, Exact}
-use Rattle.epmd_client_names.specs.Walk.{Lead, told}
+use Rattle.epmd_client_names.specs.Walk.{Lead}
 use Rattle.epmd_client_names.proofs.TextLaws.{has-of}
 use Rattle.epmd_client_names.proofs.PortLaws.{tail-length}
 use Rattle.epmd_client_names.proofs.TallyLaws.{Fewest, fewest, nothing}
@@ -209,10 +209,10 @@ no-lines [] e = refl
 no-lines (x ∷ xs) e = absurd (omega arith)
 
 -- none is left
-pub sofar-end : (s : List ℕ) (count : ℕ) (es : List LineAt) (p i : ℕ) → Sofar s count es p i → i ≡ count → (x : List Line) → Lead s 0 count x → es ≡ told x
+pub sofar-end : (s : List ℕ) (count : ℕ) (es : List LineAt) (p i : ℕ) → Sofar s count es p i → i ≡ count → (x : List Line) → Lead s 0 count x → es ≡ linesTold x
 sofar-end s count es p i f e x l =
     let z : f .left ≡ [] = no-lines (f .left) (omega (arith, f .rest .lines)) in
     let d : f .done ≡ x =
     sym (append-nil (f .done)) ∙ ap (λ (y : List Line). f .done ++ y) (sym z) ∙ l .only (f .done ++ f .left) (f .whole .reads) (omega (arith, f .whole .lines))
     in
-    f .are ∙ ap (λ (k : ℕ). linesAt 4 (f .done) ++ replicate (most - k) noLine) (sym (f .many)) ∙ ap told d
+    f .are ∙ ap (λ (k : ℕ). linesAt 4 (f .done) ++ replicate (most - k) noLine) (sym (f .many)) ∙ ap linesTold d

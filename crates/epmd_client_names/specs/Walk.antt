@@ -1,10 +1,10 @@
 -- The one reading with the fewest lines, and where its names lie in the reply.
-use Prim.Native.Nat.{ℕ, _-_, _≤_}
+use Prim.Native.Nat.{ℕ, _≤_}
 use mathlib.Core.Path.{_≡_}
-use mathlib.Core.List.{List, _++_}
-use lib.ListN.{length, drop, replicate}
+use mathlib.Core.List.{List}
+use lib.ListN.{length, drop}
 use Rattle.epmd_client_rules.specs.declared.reply.LineAt.{LineAt}
-use Rattle.epmd_client_rules.specs.Readings.{Line, linesAt, noLine, most}
+use Rattle.epmd_client_rules.specs.Readings.{Line, most, linesTold}
 use Rattle.epmd_client_names.specs.Survey.{Lines, FirstIs, Rows, Room}
 
 -- from p on, the only reading with k lines or fewer
@@ -18,15 +18,12 @@ pub record FirstLen (s : List ℕ) (p k n : ℕ) : Type 0 where
   pub is : (x : List Line) → Lead s p k x → FirstIs n x
   pub high : n ≤ 255
 
--- its lines as they are told
-abbrev pub told : List Line → List LineAt
-told xs = linesAt 4 xs ++ replicate (most - length xs) noLine
-
 pub record Walk (s kinds few : List ℕ) (count : ℕ) : Type 0 where
   pub room : Room s kinds few
   pub rows : Rows s 0 kinds few
   pub high : count ≤ most
   pub lead : (x : List Line) × Lead s 0 count x
 
+-- its lines as they are told
 abbrev pub Walked : List ℕ → ℕ → List LineAt → Type 0
-Walked s count es = (x : List Line) → Lead s 0 count x → es ≡ told x
+Walked s count es = (x : List Line) → Lead s 0 count x → es ≡ linesTold x

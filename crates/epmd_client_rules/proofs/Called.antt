@@ -22,11 +22,11 @@ use Rattle.epmd_rules.specs.declared.request.Request.the-variants.{Alive2, Port
 use Rattle.epmd_rules.specs.State.{Registry}
 use Rattle.epmd_rules.specs.Messages.{alive2Req, portPlease2Req}
 use Rattle.epmd_rules.specs.Registration.{free, isFree}
-use Rattle.epmd_rules.specs.Registry.{byName, byConnection, lowestFree, entryAt}
+use Rattle.epmd_rules.specs.Registry.{byName, entryAt}
 use Rattle.epmd_rules.specs.Replies.{port2Found, port2Missing, port2Reply, nameLine, lineOf, nameLines, namesReply}
 use Rattle.epmd_rules.specs.Serve.{Outcome, resultOf, alive2Of, port2Of, namesOf, requestOf}
 use Rattle.epmd_rules.specs.Claims.{Reachable, NumbersHeld, PlaceSound}
-use Rattle.epmd_rules.proofs.ServeLaws.{call-asked, alive2-fails, alive2-fills}
+use Rattle.epmd_rules.proofs.ServeLaws.{call-asked, alive2-fails, alive2-fills, result-fits}
 use Rattle.epmd_rules.proofs.Found.{asked-found}
 use Rattle.epmd_rules.proofs.Reachable.{always-sound, registered-found, extra-back}
 use Rattle.epmd_client_rules.specs.declared.unreadable.Unreadable.the-variants.{Ambiguous}
@@ -85,15 +85,6 @@ names-back b m told w (several k n p q d) = inr refl
 names-back b m told w (only k p o) = inl (ap listed (sym (o m w)))
 
 -- ---- over the calls
-
-result-fits : (r : Registry) (c : ℕ) (name : List ℕ) → resultOf r c name < 256
-unfolding resultOf
-result-fits r c name = by (ltb (byName r name) 64) (ltb (byConnection r c) 64) (ltb (lowestFree r) 64) where
-  by : (n k f : Bool) → cond n 1 (cond k 1 (cond f 0 1)) < 256
-  by true k f = omega arith
-  by false true f = omega arith
-  by false false true = omega arith
-  by false false false = omega arith
 
 told-apart : (highest result c d : ℕ) → (result ≡ 0 → ⊥) → alive2Told highest result c ≡ alive2Told highest result d
 told-apart highest result c d h = rw (ne-eqb result 0 h)

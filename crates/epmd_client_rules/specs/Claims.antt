@@ -190,11 +190,11 @@ pub record ReplyGives (some tagged long : Bool) (refusal : ℕ) : Type 0 where
   pub none : eqb refusal 0 ≡ some && tagged && long
 
 -- 118: 6 bytes, 121: 4, whatever Result is; 119: 2 bytes with a Result above 0, else 14 + Nlen + Elen
-abbrev pub alive2Size : List ℕ → ℕ
-alive2Size b = cond (eqb (tag b) 118) 6 4
+abbrev pub alive2ReplySize : List ℕ → ℕ
+alive2ReplySize b = cond (eqb (tag b) 118) 6 4
 
-abbrev pub port2Size : List ℕ → ℕ
-port2Size b = cond (eqb (resultIn b) 0) (14 + beAt 2 10 b + beAt 2 (12 + beAt 2 10 b) b) 2
+abbrev pub port2ReplySize : List ℕ → ℕ
+port2ReplySize b = cond (eqb (resultIn b) 0) (14 + beAt 2 10 b + beAt 2 (12 + beAt 2 10 b) b) 2
 
 pub record RefusedExactly : Type 0 where
   pub alive2-request : (port kind protocol highest lowest : ℕ) (name extra : List ℕ) (given : ℕ)
@@ -203,9 +203,9 @@ pub record RefusedExactly : Type 0 where
   pub port-please2-request : (name : List ℕ) (given : ℕ) → PortPlease2Gives (nodeName name) (leb (3 + length name) given) (portPlease2Writing name given)
   pub names-request : (given : ℕ) → NamesGives (leb 3 given) (namesWriting given)
   pub alive2-reply : (b : List ℕ)
-      → ReplyGives (leb 1 (length b)) (eqb (tag b) 118 || eqb (tag b) 121) (eqb (length b) (alive2Size b)) (alive2Numbers (alive2Read b) .refusal)
+      → ReplyGives (leb 1 (length b)) (eqb (tag b) 118 || eqb (tag b) 121) (eqb (length b) (alive2ReplySize b)) (alive2Numbers (alive2Read b) .refusal)
   pub port2-reply : (b : List ℕ)
-      → ReplyGives (leb 1 (length b)) (eqb (tag b) 119) (eqb (length b) (port2Size b)) (port2Numbers (port2Read b) .refusal)
+      → ReplyGives (leb 1 (length b)) (eqb (tag b) 119) (eqb (length b) (port2ReplySize b)) (port2Numbers (port2Read b) .refusal)
   pub names-reply : ReadExactly
 
 -- ---- all of it (Promises.promises): a claim that is not proved is missed here

@@ -56,14 +56,11 @@ abbrev pub noLine : LineAt
 noLine = record { at = 0; len = 0; port = 0 }
 
 -- the lines stand behind the own port's four bytes; zero behind the count
+abbrev pub linesTold : List Line → List LineAt
+linesTold xs = linesAt 4 xs ++ replicate (most - length xs) noLine
+
 abbrev pub listed : Reading → NamesReply
-listed m =
-    record {
-      listing = Listed;
-      port = m .own;
-      count = length (m .lines);
-      lines = linesAt 4 (m .lines) ++ replicate (most - length (m .lines)) noLine;
-    }
+listed m = record { listing = Listed; port = m .own; count = length (m .lines); lines = linesTold (m .lines) }
 
 abbrev pub notListed : Unreadable → NamesReply
 notListed why = record { listing = Refused why; port = 0; count = 0; lines = replicate most noLine }

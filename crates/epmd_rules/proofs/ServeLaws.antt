@@ -31,6 +31,16 @@ result-free r c name e = by (ltb (byName r name) 64) (ltb (byConnection r c) 64)
   by false false true g h = ltb-true (lowestFree r) 64 g
   by false false false g h = absurd (omega arith)
 
+-- Result is told in one byte
+pub result-fits : (r : Registry) (c : ℕ) (name : List ℕ) → resultOf r c name < 256
+unfolding resultOf
+result-fits r c name = by (ltb (byName r name) 64) (ltb (byConnection r c) 64) (ltb (lowestFree r) 64) where
+  by : (n k f : Bool) → cond n 1 (cond k 1 (cond f 0 1)) < 256
+  by true k f = omega arith
+  by false true f = omega arith
+  by false false true = omega arith
+  by false false false = omega arith
+
 module _ (r : Registry) (c : ℕ) (b : List ℕ) (k : ℕ) (e : k ≡ resultOf r c (runAt alive2Req 6 b)) where
   pub alive2-fails : (k ≡ 0 → ⊥) → alive2Of r c b ≡ replied r (alive2Reply (intAt alive2Req 4 b) k 0)
   unfolding alive2Of
