@@ -1,6 +1,7 @@
 // Requests and closes, on a registry of the right length.
 use crate::replies::put_names;
 use crate::replies::put_port2;
+use crate::result::result_of;
 use epmd_messages::replies::put_alive2_reply;
 use epmd_messages::requests::alive2_highest;
 use epmd_messages::requests::alive2_name;
@@ -11,7 +12,6 @@ use epmd_rules::registration::Registration;
 use epmd_rules::request::Request;
 use epmd_state::find::find_connection;
 use epmd_state::find::find_free;
-use epmd_state::find::find_name;
 use epmd_state::head::next;
 use epmd_state::head::put_next;
 use epmd_state::layout::PLACES;
@@ -22,7 +22,7 @@ ghost use Prim.Native.Nat.{_≤_, _<_};
 ghost use lib.ListN.{length};
 ghost use Rattle.epmd_rules.specs.Requests.{room};
 ghost use Rattle.epmd_rules.specs.Registry.{lowestFree, stepped, filled, closeOf};
-ghost use Rattle.epmd_rules.specs.Serve.{Alive2Body, resultBy, resultOf, alive2Of, requestOf};
+ghost use Rattle.epmd_rules.specs.Serve.{Alive2Body, alive2Of, requestOf};
 ghost use Rattle.epmd_state.specs.Bytes.{places, size, registryOf, Does, Closes};
 
 // The creation after this one: 0 is never given.
@@ -42,32 +42,6 @@ fn fill(state: &mut [u8], at: usize, p: Registration, creation: u32)
 {
     put(state, at, p);
     put_next(state, step(creation));
-}
-
-// Result, from the places where the name, the connection and a free place were found.
-fn result_by(named: usize, connected: usize, vacant: usize) -> u8
-    ensures { λ r. ⌜ r ≡ resultBy named connected vacant ⌝ }
-{
-    if named < PLACES {
-        return 1;
-    }
-    if connected < PLACES {
-        return 2;
-    }
-    if vacant < PLACES {
-        return 0;
-    }
-    3
-}
-
-// Result of a registration that would go to the lowest free place.
-fn result_of(state: &[u8], connection: u32, name: &[u8], vacant: usize) -> u8
-    requires { ⌜ (vacant ≡ lowestFree (registryOf (now state))) × (length (now state) ≡ size) ⌝ }
-    ensures { λ r. ⌜ r ≡ resultOf (registryOf (now (state .entry))) connection (now (name .entry)) ⌝ }
-{
-    let named = find_name(state, name);
-    let connected = find_connection(state, connection);
-    result_by(named, connected, vacant)
 }
 
 // ALIVE2_REQ: fills the lowest free place, or tells why not and changes nothing.

@@ -3,8 +3,8 @@ use Prim.Native.Nat.{_≤_, _<_}
 use borrow.Author.Tests.{lt-ltb, le-ltb}
 use Rattle.epmd_state.specs.Bytes.{places}
 use borrow.Author.Needs.{needs}
-use Rattle.epmd.proofs.serve.result_by.Statement.{statement}
-use Rattle.epmd.proofs.serve.result_by.Tie as tie
+use Rattle.epmd.proofs.result.result_by.Statement.{statement}
+use Rattle.epmd.proofs.result.result_by.Tie as tie
 
 returns : tie.Need-returns
 returns c =
