@@ -33,6 +33,7 @@ impl Run {
         for number in 0..places {
             run.register(number, &number.to_string(), 6);
         }
+        run.tally = Tally::default();
         run
     }
 
