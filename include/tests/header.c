@@ -84,7 +84,7 @@ static void mapper(void) {
     CHECK(bks_registry_new(&other, 4370, 0) == BKS_REFUSED_ZERO_CREATION && memcmp(&r, &other, sizeof r) == 0);
 }
 
-/* ALIVE2 of a name of two letters, one of 65. */
+/* ALIVE2 of the name with this number: two letters. */
 static bks_written alive2_of(uint8_t name, bks_registry *r, uint32_t connection, uint8_t highest, uint8_t *out) {
     const uint8_t first = (uint8_t)('a' + name / 8), second = (uint8_t)('a' + name % 8);
     const uint8_t frame[] = {0, 15, BKS_ALIVE2_REQ, 0x11, 0x12, 77, 0, 0, highest, 0, 5, 0, 2, first, second, 0, 0};

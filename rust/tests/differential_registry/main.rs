@@ -82,11 +82,21 @@ fn random_sequences() {
     println!("seed {first}, {sequences} sequences");
     tally.print();
     tally.assert_seen(EXPECTED);
+    assert_results(&tally);
+}
+
+/// Each situation of a registration was met often, with both forms of the reply, and had no Result but
+/// its own.
+fn assert_results(tally: &Tally) {
+    let mut seen = 0;
     for (situation, result) in Situation::ALL {
         for tag in [118, 121] {
-            tally.assert_share(&format!("{tag}, {situation}: {result}"), 5, "registrations");
+            let what = format!("{tag}, {situation}: {result}");
+            tally.assert_share(&what, 5, "registrations");
+            seen += tally.times(&what);
         }
     }
+    assert_eq!(seen, tally.times("registrations"));
 }
 
 /// Runs the calls of the file that the variable `BIRKENSCHUH_REPLAY` names, or else a short sequence

@@ -76,6 +76,16 @@ impl Pair {
         }
     }
 
+    /// Another pattern at each call: a stray byte has but one chance in 256 to look right.
+    fn new_outputs(&mut self, room: usize) {
+        let pattern = (self.calls * 37) as u8 ^ 0xa5;
+        for output in [&mut self.ours, &mut self.expected] {
+            output.clear();
+            output.resize(room + GUARD, pattern);
+        }
+        self.written = 0;
+    }
+
     fn request(
         &mut self,
         connection: u32,
@@ -83,16 +93,11 @@ impl Pair {
         frame: &[u8],
         tally: &mut Tally,
     ) -> Result<(), String> {
+        self.new_outputs(room);
         let Some((ours, expected)) = &mut self.state else {
             return Ok(());
         };
         tally.count("requests");
-        // Another pattern at each call: a stray byte has but one chance in 256 to look right.
-        let pattern = (self.calls * 37) as u8 ^ 0xa5;
-        for output in [&mut self.ours, &mut self.expected] {
-            output.clear();
-            output.resize(room + GUARD, pattern);
-        }
         let before = expected.next_creation();
         let situation = Situation::before(expected, connection, frame);
         let answer = ours.request(connection, frame, &mut self.ours[..room]);
@@ -103,17 +108,16 @@ impl Pair {
         if before > expected.next_creation() {
             tally.count("creation wrapped");
         }
-        self.written = told.unwrap_or(0);
         match answer {
             Ok((written, asked)) => {
+                self.written = written;
                 let reply = &self.expected[..written];
                 if let Some(asked) = asked {
                     same("what was asked", asked, asked_by(reply, frame[2]))?;
                 }
                 count_reply(reply, frame[2], tally);
                 if let Some(situation) = situation {
-                    tally.count("registrations");
-                    tally.count(format!("{}, {situation}: {}", reply[0], reply[1]));
+                    count_registration(reply, situation, tally);
                 }
             }
             Err(refusal) => tally.count(format!("refusal {refusal}")),
@@ -208,4 +212,9 @@ fn count_reply(reply: &[u8], tag: u8, tally: &mut Tally) {
         110 => tally.count("names, some"),
         _ => tally.count(format!("reply {} result {}", reply[0], reply[1])),
     }
+}
+
+fn count_registration(reply: &[u8], found: Situation, tally: &mut Tally) {
+    tally.count("registrations");
+    tally.count(format!("{}, {found}: {}", reply[0], reply[1]));
 }
