@@ -124,3 +124,43 @@ impl Asked {
         }
     }
 }
+
+#[cfg(test)]
+mod tests {
+    use super::*;
+
+    #[test]
+    fn results_are_those_of_the_papers_in_order() {
+        let numbers = Alive2Result::ALL.map(Alive2Result::number);
+        assert_eq!(numbers, [0, 1, 2, 3]);
+        for result in Alive2Result::ALL {
+            assert_eq!(Alive2Result::of(result.number()), Some(result));
+        }
+        assert!((4..=255).all(|number| Alive2Result::of(number).is_none()));
+    }
+
+    #[test]
+    fn meanings_are_single_lines_and_all_different() {
+        let mut meanings = Alive2Result::ALL.map(|result| result.to_string()).to_vec();
+        assert!(meanings
+            .iter()
+            .all(|text| !text.is_empty() && !text.contains('\n')));
+        meanings.sort();
+        meanings.dedup();
+        assert_eq!(meanings.len(), Alive2Result::ALL.len());
+    }
+
+    /// Each Result in each form of the reply.
+    #[test]
+    fn alive2_is_told_by_its_reply() {
+        for result in Alive2Result::ALL {
+            let number = result.number();
+            let told = Asked::of(&[0, 1, 120], &[118, number, 1, 2, 3, 4]);
+            let creation = 0x0102_0304;
+            assert_eq!(told, Asked::Alive2 { result, creation });
+            let told = Asked::of(&[0, 1, 120], &[121, number, 1, 2]);
+            let creation = 0x0102;
+            assert_eq!(told, Asked::Alive2 { result, creation });
+        }
+    }
+}
