@@ -1,7 +1,7 @@
 pub mod RequestLaws
 pub mod ReplyLaws
-pub mod ServeLaws
 pub mod PlaceLaws
+pub mod ServeLaws
 pub mod Calls
 pub mod Reachable
 pub mod Found

@@ -56,7 +56,7 @@ not-found finds p h f e = let w : _≡_ {A = ℕ} 0 1 = cc (finds .found p f e, 
 pub otherwise : {A B P : Type 0} → A ⊎ B → (A → B → ⊥) → Exactly A P → Exactly B (P → ⊥)
 otherwise one apart e = (λ b p. apart (e .1 p) b, λ h. ⊎-elim (λ a. absurd (h (e .0 a))) (λ b. b) one)
 
-below : (n m : ℕ) → (n < m) ⊎ (m ≤ n)
+pub below : (n m : ℕ) → (n < m) ⊎ (m ≤ n)
 below n m = by (ltb n m) refl where
   by : (t : Bool) → ltb n m ≡ t → (n < m) ⊎ (m ≤ n)
   by true e = inl (ltb-true n m e)

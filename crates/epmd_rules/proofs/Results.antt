@@ -4,7 +4,7 @@ use mathlib.Core.Path.{_≡_, refl, sym, ap, subst, _∙_}
 use mathlib.Core.Bool.{Bool, true, false, cond}
 use mathlib.Core.List.{List, [], _∷_}
 use native.Mathlib.Omega.{arith}
-use borrow.Author.Tests.{eqb-true, eqb-false, ne-eqb, lt-ltb, le-ltb}
+use borrow.Author.Tests.{eqb-true, eqb-false, ne-eqb}
 use lib.Dec.{eqb, leb}
 use lib.ListN.{length, getD}
 use Rattle.wire.specs.Frame.{body}
@@ -13,23 +13,15 @@ use Rattle.epmd_rules.specs.declared.registration.Registration.{Registra
 use Rattle.epmd_rules.specs.State.{Registry}
 use Rattle.epmd_rules.specs.declared.request.Request.the-variants.{Alive2}
 use Rattle.epmd_rules.specs.Messages.{alive2Req}
-use Rattle.epmd_rules.specs.Registry.{byName, byConnection, lowestFree, filled}
+use Rattle.epmd_rules.specs.Registry.{lowestFree, filled}
 use Rattle.epmd_rules.specs.Requests.{examineOf}
 use Rattle.epmd_rules.specs.Replies.{alive2Reply}
 use Rattle.epmd_rules.specs.Serve.{Outcome, replied, resultOf, registrationOf, requestOf}
 use Rattle.epmd_rules.specs.Claims.{NameInUse, ConnectionRegistered, NoPlace, LowestFilled, resultTold, Alive2Tells, ResultTells, CreationFieldZero}
-use Rattle.epmd_rules.proofs.ServeLaws.{ResultBy, name-in-use, connection-registered, no-place, registered, result-by, result-fits, call-asked, alive2-fails, alive2-fills}
+use Rattle.epmd_rules.proofs.ServeLaws.{ResultBy, name-in-use, connection-registered, no-place, registered, result-is, result-by, result-fits, call-asked, alive2-fails, alive2-fills}
 use Rattle.epmd_rules.proofs.PlaceLaws.{named-exactly, unnamed-exactly, connected-exactly, unconnected-exactly, full-exactly, room-exactly, lowest-is-free, lower-taken}
 use Rattle.epmd_rules.proofs.Calls.{filled-here, filled-other}
 use Rattle.epmd_rules.proofs.Reachable.{always-sound}
-
--- what a test finds decides Result
-result-is : (r : Registry) (c : ℕ) (name : List ℕ) {k : ℕ} → ResultBy r c name k → resultOf r c name ≡ k
-unfolding resultOf
-result-is r c name (name-in-use n) = rw (lt-ltb (byName r name) 64 n)
-result-is r c name (connection-registered n k) = rw (le-ltb (byName r name) 64 n, lt-ltb (byConnection r c) 64 k)
-result-is r c name (no-place n k f) = rw (le-ltb (byName r name) 64 n, le-ltb (byConnection r c) 64 k, le-ltb (lowestFree r) 64 f)
-result-is r c name (registered n k f) = rw (le-ltb (byName r name) 64 n, le-ltb (byConnection r c) 64 k, lt-ltb (lowestFree r) 64 f)
 
 -- the byte behind the tag is Result, in both replies
 reply-tells : (highest result c : ℕ) → result < 256 → getD (alive2Reply highest result c) 1 0 ≡ result

@@ -1,11 +1,10 @@
 -- Laws of the calls, by the cases that code makes. Assumes nothing.
 use Prim.Native.Nat.{ℕ, _≤_, _<_}
-use mathlib.Core.Path.{_≡_, refl, ap, subst}
-use mathlib.Core.Bool.{Bool, true, false, cond}
+use mathlib.Core.Path.{_≡_, sym, ap, subst}
+use mathlib.Core.Logic.{_⊎_, inl, inr}
 use mathlib.Core.List.{List}
 use native.Mathlib.Omega.{arith}
-use borrow.Author.Tests.{eq-eqb, ne-eqb, ltb-true, ltb-false}
-use lib.Dec.{ltb}
+use borrow.Author.Tests.{eq-eqb, ne-eqb, lt-ltb, le-ltb}
 use Rattle.wire.specs.Frame.{body}
 use Rattle.wire.specs.Layout.{intAt, runAt}
 use Rattle.epmd_rules.specs.State.{Registry}
@@ -15,6 +14,7 @@ use Rattle.epmd_rules.specs.Registry.{byName, byConnection, lowestFree, 
 use Rattle.epmd_rules.specs.Requests.{examineOf}
 use Rattle.epmd_rules.specs.Replies.{alive2Reply}
 use Rattle.epmd_rules.specs.Serve.{replied, resultOf, registrationOf, alive2Of, outcomeOf, requestOf}
+use Rattle.epmd_rules.proofs.PlaceLaws.{below}
 
 -- a call is what its frame asks for
 pub call-asked : (r : Registry) (c : ℕ) (frame : List ℕ) (given : ℕ) (q : Request) → examineOf frame given ≡ q → requestOf r c frame given ≡ outcomeOf r c (body frame) q
@@ -23,24 +23,32 @@ call-asked r c frame given q e = ap (outcomeOf r c (body frame)) e
 
 -- ---- Result
 
--- Result by the tests that give it. Nothing else in proofs spells the text of `resultBy` out.
+-- Result by the tests that give it: proofs know `resultBy` by this alone
 pub data ResultBy (r : Registry) (c : ℕ) (name : List ℕ) : ℕ → Type 0 where
   name-in-use : byName r name < 64 → ResultBy r c name 1
   connection-registered : 64 ≤ byName r name → byConnection r c < 64 → ResultBy r c name 2
   no-place : 64 ≤ byName r name → 64 ≤ byConnection r c → 64 ≤ lowestFree r → ResultBy r c name 3
   registered : 64 ≤ byName r name → 64 ≤ byConnection r c → lowestFree r < 64 → ResultBy r c name 0
 
-pub result-by : (r : Registry) (c : ℕ) (name : List ℕ) → ResultBy r c name (resultOf r c name)
+-- what a test finds decides Result, and some test does
+pub result-is : (r : Registry) (c : ℕ) (name : List ℕ) {k : ℕ} → ResultBy r c name k → resultOf r c name ≡ k
 unfolding resultOf
-result-by r c name = by (ltb (byName r name) 64) refl (ltb (byConnection r c) 64) refl (ltb (lowestFree r) 64) refl where
-  by : (n : Bool) → ltb (byName r name) 64 ≡ n → (k : Bool) → ltb (byConnection r c) 64 ≡ k → (f : Bool) → ltb (lowestFree r) 64 ≡ f
-      → ResultBy r c name (cond n 1 (cond k 2 (cond f 0 3)))
-  by true n k _ f _ = name-in-use (ltb-true (byName r name) 64 n)
-  by false n true k f _ = connection-registered (ltb-false (byName r name) 64 n) (ltb-true (byConnection r c) 64 k)
-  by false n false k true f =
-      registered (ltb-false (byName r name) 64 n) (ltb-false (byConnection r c) 64 k) (ltb-true (lowestFree r) 64 f)
-  by false n false k false f =
-      no-place (ltb-false (byName r name) 64 n) (ltb-false (byConnection r c) 64 k) (ltb-false (lowestFree r) 64 f)
+result-is r c name (name-in-use n) = rw (lt-ltb (byName r name) 64 n)
+result-is r c name (connection-registered n k) = rw (le-ltb (byName r name) 64 n, lt-ltb (byConnection r c) 64 k)
+result-is r c name (no-place n k f) = rw (le-ltb (byName r name) 64 n, le-ltb (byConnection r c) 64 k, le-ltb (lowestFree r) 64 f)
+result-is r c name (registered n k f) = rw (le-ltb (byName r name) 64 n, le-ltb (byConnection r c) 64 k, lt-ltb (lowestFree r) 64 f)
+
+pub result-by : (r : Registry) (c : ℕ) (name : List ℕ) → ResultBy r c name (resultOf r c name)
+result-by r c name = by (below (byName r name) 64) (below (byConnection r c) 64) (below (lowestFree r) 64) where
+  is : {k : ℕ} → ResultBy r c name k → ResultBy r c name (resultOf r c name)
+  is t = subst (ResultBy r c name) (sym (result-is r c name t)) t
+
+  by : (byName r name < 64) ⊎ (64 ≤ byName r name) → (byConnection r c < 64) ⊎ (64 ≤ byConnection r c) → (lowestFree r < 64) ⊎ (64 ≤ lowestFree r)
+      → ResultBy r c name (resultOf r c name)
+  by (inl n) _ _ = is (name-in-use n)
+  by (inr n) (inl k) _ = is (connection-registered n k)
+  by (inr n) (inr k) (inl f) = is (registered n k f)
+  by (inr n) (inr k) (inr f) = is (no-place n k f)
 
 -- with Result 0 no place has the name, none the connection, and one is free
 pub record Registers (r : Registry) (c : ℕ) (name : List ℕ) : Type 0 where
