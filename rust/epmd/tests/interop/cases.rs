@@ -49,6 +49,10 @@ fn of_extra(length: usize) -> Vec<u8> {
     alive2_of(4370, 77, 0, 6, 5, b"ride", &vec![b'e'; length])
 }
 
+fn many(count: u16) -> Vec<Vec<u8>> {
+    (0..count).map(|at| alive2(&format!("n{at}"), at)).collect()
+}
+
 fn long(tag: u8) -> Vec<u8> {
     let mut body = vec![b'u'; 65_535];
     body[0] = tag;
@@ -68,7 +72,7 @@ pub fn cases() -> Vec<Case> {
 
 fn registrations() -> Vec<Case> {
     let ride = alive2("ride", 4370);
-    let many: Vec<Vec<u8>> = (0..64).map(|at| alive2(&format!("n{at}"), at)).collect();
+    let many = many(64);
     let mut trailing = ride.clone();
     trailing.push(b'X');
     trailing[1] += 1;
@@ -97,6 +101,8 @@ fn registrations() -> Vec<Case> {
         case("ALIVE2 without extra's length", no_extra),
         case("ALIVE2, name longer than the frame", long_name),
         case("ALIVE2 as the 65th", alive2("late", 9)).after(&many),
+        case("ALIVE2, version 5, as the 65th", of_versions(5, 5)).after(&many),
+        case("ALIVE2 of a name taken, as the 65th", alive2("n9", 9)).after(&many),
     ]
 }
 
@@ -158,6 +164,15 @@ fn connections() -> Vec<Case> {
             [&ride[..], NAMES].concat(),
         ),
         case("ALIVE2, then ALIVE2", ride.clone()).then(alive2("other", 4371)),
+        case("ALIVE2, version 5, twice", of_versions(5, 5))
+            .then(alive2_of(4371, 77, 0, 5, 5, b"other", b"")),
+        case("ALIVE2, then ALIVE2 of its own name", ride.clone()).then(ride.clone()),
+        case("ALIVE2, then ALIVE2 of a name taken", alive2("other", 4371))
+            .then(ride.clone())
+            .after(&taken),
+        case("ALIVE2 as the 64th, then ALIVE2", ride.clone())
+            .then(alive2("other", 4371))
+            .after(&many(63)),
         case("ALIVE2, then NAMES", ride.clone()).then(NAMES.to_vec()),
         case("ALIVE2, then PORT_PLEASE2", ride.clone()).then(ask),
         case("ALIVE2, then an unknown tag", ride.clone()).then(frame(b"?")),
