@@ -199,8 +199,8 @@ fn wants_to_register(frame: &[u8]) -> bool {
     frame.get(2) == Some(&ALIVE2_REQ)
 }
 
-/// By the Result alone, so that no more connections are looked at than the answer hangs on. The
-/// connection's own node has not ended: what it asks has come before its end.
+/// Those on whom the Result depends and nobody else, so that a stranger cannot have more
+/// connections looked at. A connection's own node is there: its request came before its end.
 fn in_the_way(it: &Connection, name: &[u8], result: Alive2Result) -> Option<InTheWay> {
     match result {
         Alive2Result::NameInUse if it.has_node(name) => None,
