@@ -88,7 +88,7 @@ fn the_log_as_json_has_the_number_and_the_meaning() {
     assert!(line.contains(wanted), "{line}");
 }
 
-/// The events of the log about a name or a few, in their order.
+/// Which nodes left and which were not registered, in the order of the log, once there are so many.
 fn events(mapper: &Mapper, count: usize) -> Vec<String> {
     let told = || -> Vec<String> {
         let lines = mapper.process.lines();
