@@ -18,13 +18,11 @@ use epmd_state::layout::PLACES;
 use epmd_state::put::clear;
 use epmd_state::put::put;
 ghost use mathlib.Core.Path.{_≡_};
-ghost use mathlib.Core.Bool.{cond};
 ghost use Prim.Native.Nat.{_≤_, _<_};
 ghost use lib.ListN.{length};
-ghost use lib.Dec.{eqb};
 ghost use Rattle.epmd_rules.specs.Requests.{room};
 ghost use Rattle.epmd_rules.specs.Registry.{lowestFree, stepped, filled, closeOf};
-ghost use Rattle.epmd_rules.specs.Serve.{Alive2Body, resultOf, alive2Of, requestOf};
+ghost use Rattle.epmd_rules.specs.Serve.{Alive2Body, resultBy, resultOf, alive2Of, requestOf};
 ghost use Rattle.epmd_state.specs.Bytes.{places, size, registryOf, Does, Closes};
 
 // The creation after this one: 0 is never given.
@@ -46,39 +44,48 @@ fn fill(state: &mut [u8], at: usize, p: Registration, creation: u32)
     put_next(state, step(creation));
 }
 
-// Where a registration would go: 64 if its Result is 1.
-fn place_for(state: &[u8], connection: u32, name: &[u8]) -> usize
-    requires { ⌜ length (now state) ≡ size ⌝ }
-    ensures { λ r. ⌜ r ≡ cond (eqb (resultOf (registryOf (now (state .entry))) connection (now (name .entry))) 0) (lowestFree (registryOf (now (state .entry)))) places ⌝ }
+// Result, from the places where the name, the connection and a free place were found.
+fn result_by(named: usize, connected: usize, vacant: usize) -> u8
+    ensures { λ r. ⌜ r ≡ resultBy named connected vacant ⌝ }
 {
-    if find_name(state, name) < PLACES {
-        return PLACES;
+    if named < PLACES {
+        return 1;
     }
-    if find_connection(state, connection) < PLACES {
-        return PLACES;
+    if connected < PLACES {
+        return 2;
     }
-    let free = find_free(state);
-    if free < PLACES {
-        return free;
+    if vacant < PLACES {
+        return 0;
     }
-    PLACES
+    3
 }
 
-// ALIVE2_REQ: fills the lowest free place, or tells Result 1 and changes nothing.
+// Result of a registration that would go to the lowest free place.
+fn result_of(state: &[u8], connection: u32, name: &[u8], vacant: usize) -> u8
+    requires { ⌜ (vacant ≡ lowestFree (registryOf (now state))) × (length (now state) ≡ size) ⌝ }
+    ensures { λ r. ⌜ r ≡ resultOf (registryOf (now (state .entry))) connection (now (name .entry)) ⌝ }
+{
+    let named = find_name(state, name);
+    let connected = find_connection(state, connection);
+    result_by(named, connected, vacant)
+}
+
+// ALIVE2_REQ: fills the lowest free place, or tells why not and changes nothing.
 fn alive2(state: &mut [u8], connection: u32, body: &[u8], out: &mut [u8]) -> Answer
     requires { ⌜ (Alive2Body (now body)) × (room ≤ length (now out)) × (length (now state) ≡ size) ⌝ }
     ensures { λ r. ⌜ Does (alive2Of (registryOf (now (state .entry))) connection (now (body .entry))) r (now (state .exit)) (now (out .entry)) (now (out .exit)) ⌝ }
 {
     let highest = alive2_highest(body);
-    let at = place_for(&state[..], connection, alive2_name(body));
-    if PLACES <= at {
-        let n = put_alive2_reply(out, highest, 1, 0);
+    let vacant = find_free(&state[..]);
+    let result = result_of(&state[..], connection, alive2_name(body), vacant);
+    if 0 < result {
+        let n = put_alive2_reply(out, highest, result, 0);
         return Answer::Written(n);
     }
     let creation = next(&state[..]);
     fill(
         state,
-        at,
+        vacant,
         registration_of(body, connection, creation),
         creation,
     );
