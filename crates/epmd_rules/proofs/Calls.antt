@@ -23,7 +23,7 @@ use Rattle.epmd_rules.specs.Requests.{examineOf}
 use Rattle.epmd_rules.specs.Replies.{alive2Reply}
 use Rattle.epmd_rules.specs.Serve.{Outcome, replied, resultOf, registrationOf, alive2Of, port2Of, namesOf, requestOf, outcomeOf}
 use Rattle.epmd_rules.specs.Claims.{Keeps, RefusalKeeps, FailureKeeps, CreationWraps, TakenKept, FreedNext}
-use Rattle.epmd_rules.proofs.ServeLaws.{call-asked, alive2-fails, alive2-fills, result-registers}
+use Rattle.epmd_rules.proofs.ServeLaws.{call-asked, alive2-fails, alive2-fills, result-admits}
 use Rattle.epmd_rules.proofs.PlaceLaws.{lowest-is-free}
 
 -- ---- what a call tells
@@ -109,7 +109,7 @@ taken-kept r c frame given i l h t = by (after-request r c frame given) where
   by : {s : Registry} → After r c frame given s → entryAt s i ≡ entryAt r i
   by (same e) = ap (λ (x : Registry). entryAt x i) e
   by (more a z e) =
-      let room = result-registers r c (runAt alive2Req 6 (body frame)) z .room in
+      let room = result-admits r c (runAt alive2Req 6 (body frame)) z .room in
       let other : i ≡ lowestFree r → ⊥ =
       λ (k : i ≡ lowestFree r). (let w : _≡_ {A = ℕ} 0 1 = cc (ap (λ (j : ℕ). isFree (entryAt r j)) k, lowest-is-free r l room) in absurd (omega arith)) in
       ap (λ (x : Registry). entryAt x i) e ∙ filled-other r (registrationOf c (r .next) (body frame)) l room i other

@@ -17,7 +17,7 @@ use Rattle.epmd_rules.specs.declared.registration.Registration.{Registra
 use Rattle.epmd_rules.specs.State.{Registry}
 use Rattle.epmd_rules.specs.Registration.{free, isFree, hasName, hasConnection}
 use Rattle.epmd_rules.specs.Registry.{entryAt, byName, byConnection, lowestFree}
-use Rattle.epmd_rules.specs.Claims.{SomeTaken, NameInUse, ConnectionRegistered, NoPlace, Exactly}
+use Rattle.epmd_rules.specs.Claims.{SomeTaken, Named, NameInUse, Connected, ConnectionRegistered, NoPlace, Exactly}
 
 -- a test finds the taken places of which something holds, and no others
 pub record Finds (has : Registration → Bool) (holds : Registration → Type 0) : Type 0 where
@@ -29,7 +29,7 @@ not-true : (t : Bool) → not t ≡ true → t ≡ false
 not-true false e = refl
 not-true true e = let w : _≡_ {A = ℕ} 0 1 = cc in absurd (omega arith)
 
-pub finds-name : (name : List ℕ) → Finds (hasName name) (λ (p : Registration). nameBytes (p .name) ≡ name)
+pub finds-name : (name : List ℕ) → Finds (hasName name) (Named name)
 unfolding hasName
 finds-name name =
     record {
@@ -38,7 +38,7 @@ finds-name name =
       found = λ p f e. rw f (same-decides (nameBytes (p .name)) name .1 e);
     }
 
-pub finds-connection : (c : ℕ) → Finds (hasConnection c) (λ (p : Registration). p .connection ≡ c)
+pub finds-connection : (c : ℕ) → Finds (hasConnection c) (Connected c)
 unfolding hasConnection
 finds-connection c =
     record {
@@ -81,14 +81,14 @@ module _ (r : Registry) (long : length (r .registrations) ≡ 64) where
 
   pub named-exactly : (name : List ℕ) → Exactly (byName r name < 64) (NameInUse r name)
   unfolding byName
-  named-exactly name = place-exactly (hasName name) (λ (p : Registration). nameBytes (p .name) ≡ name) (finds-name name)
+  named-exactly name = place-exactly (hasName name) (Named name) (finds-name name)
 
   pub unnamed-exactly : (name : List ℕ) → Exactly (64 ≤ byName r name) (NameInUse r name → ⊥)
   unnamed-exactly name = otherwise (below (byName r name) 64) (λ a b. omega arith) (named-exactly name)
 
   pub connected-exactly : (c : ℕ) → Exactly (byConnection r c < 64) (ConnectionRegistered r c)
   unfolding byConnection
-  connected-exactly c = place-exactly (hasConnection c) (λ (p : Registration). p .connection ≡ c) (finds-connection c)
+  connected-exactly c = place-exactly (hasConnection c) (Connected c) (finds-connection c)
 
   pub unconnected-exactly : (c : ℕ) → Exactly (64 ≤ byConnection r c) (ConnectionRegistered r c → ⊥)
   unconnected-exactly c = otherwise (below (byConnection r c) 64) (λ a b. omega arith) (connected-exactly c)
@@ -108,5 +108,4 @@ module _ (r : Registry) (long : length (r .registrations) ≡ 64) where
     free-yet-taken l all = let w : _≡_ {A = ℕ} 0 1 = cc (lowest-is-free l, all (lowestFree r) l) in absurd (omega arith)
 
   pub room-exactly : Exactly (lowestFree r < 64) (NoPlace r → ⊥)
-  room-exactly =
-      otherwise (⊎-elim (λ l. inr l) (λ g. inl g) (below (lowestFree r) 64)) (λ g l. omega arith) full-exactly
+  room-exactly = otherwise (⊎-elim (λ l. inr l) (λ g. inl g) (below (lowestFree r) 64)) (λ g l. omega arith) full-exactly

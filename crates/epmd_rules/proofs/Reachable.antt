@@ -32,7 +32,7 @@ use Rattle.epmd_rules.specs.Claims.{made, requested, closed, NumbersHeld
 use Rattle.epmd_rules.proofs.Calls.{step-within, After, same, more, after-request, filled-here, filled-other, Afterwards, none-freed, one-freed, after-close, without, free-is-free}
 use Rattle.epmd_rules.proofs.RequestLaws.{alive2-body, alive2-name-some, alive2-named}
 use Rattle.epmd_rules.proofs.ReplyLaws.{line-within}
-use Rattle.epmd_rules.proofs.ServeLaws.{call-asked, alive2-fills, result-registers}
+use Rattle.epmd_rules.proofs.ServeLaws.{call-asked, alive2-fills, result-admits}
 use Rattle.epmd_rules.proofs.PlaceLaws.{finds-name, finds-connection, not-found}
 
 -- ---- making
@@ -180,21 +180,21 @@ module _ (r : Registry) (c : ℕ) (frame : List ℕ) (given : ℕ) (a : examineO
 
   module _ (s : RegistrySound r) (z : resultOf r c (runAt alive2Req 6 (body frame)) ≡ 0) where
     room : lowestFree r < 64
-    room = result-registers r c (runAt alive2Req 6 (body frame)) z .room
+    room = result-admits r c (runAt alive2Req 6 (body frame)) z .room
 
     -- every taken place has another name and another connection than the new one
     fresh-name : (i : ℕ) → i < 64 → isFree (entryAt r i) ≡ false → nameBytes (entryAt r i .name) ≡ nameBytes (new .name) → ⊥
     unfolding entryAt byName
     fresh-name i h f e =
         not-found (finds-name (runAt alive2Req 6 (body frame))) (entryAt r i)
-        (first-before (hasName (runAt alive2Req 6 (body frame))) (r .registrations) free i (omega (arith, result-registers r c (runAt alive2Req 6 (body frame)) z .no-name)))
+        (first-before (hasName (runAt alive2Req 6 (body frame))) (r .registrations) free i (omega (arith, result-admits r c (runAt alive2Req 6 (body frame)) z .no-name)))
         f (e ∙ new-name)
 
     fresh-connection : (i : ℕ) → i < 64 → isFree (entryAt r i) ≡ false → entryAt r i .connection ≡ new .connection → ⊥
     unfolding entryAt byConnection
     fresh-connection i h f e =
         not-found (finds-connection c) (entryAt r i)
-        (first-before (hasConnection c) (r .registrations) free i (omega (arith, result-registers r c (runAt alive2Req 6 (body frame)) z .no-connection)))
+        (first-before (hasConnection c) (r .registrations) free i (omega (arith, result-admits r c (runAt alive2Req 6 (body frame)) z .no-connection)))
         f (e ∙ new-connection)
 
     here : entryAt (filled r new) (lowestFree r) ≡ new
@@ -263,7 +263,7 @@ module _ (r : Registry) (c : ℕ) (frame : List ℕ) (given : ℕ) (a : examineO
     new-found =
         let name = runAt alive2Req 6 (body frame) in
         first-is (hasName name) (filled r new .registrations) free (lowestFree r) (omega (arith, filled-places, room))
-        (λ j m. ap (hasName name) (there j (λ e. omega arith)) ∙ first-before (hasName name) (r .registrations) free j (omega (arith, result-registers r c name z .no-name, room)))
+        (λ j m. ap (hasName name) (there j (λ e. omega arith)) ∙ first-before (hasName name) (r .registrations) free j (omega (arith, result-admits r c name z .no-name, room)))
         (λ m. ap (hasName name) here ∙ new-has)
 
 -- ---- one registration less
@@ -348,7 +348,7 @@ registered-found r c frame given reach a z =
     ap (λ (o : Outcome). o .registry) (call-asked r c frame given Alive2 a ∙ alive2-fills r c (body frame) (resultOf r c name) refl z)
     ∙ ap (filled r) (unnew r c frame given a) in
     ap (λ (x : Registry). port2Reply x name) e
-    ∙ rw (f, lt-ltb (lowestFree r) 64 (result-registers r c name z .room))
+    ∙ rw (f, lt-ltb (lowestFree r) 64 (result-admits r c name z .room))
     (ap port2Found (here r c frame given a s z ∙ sym (unnew r c frame given a)))
 
 lines-within : (ps : List Registration) → ((i : ℕ) → i < length ps → length (lineOf (getD ps i free)) ≤ lineRoom) → length (nameLines ps) ≤ lineRoom * length ps

@@ -126,4 +126,4 @@ pub result-tells : ResultTells
 result-tells r c frame given reach a = tells r c frame given a (always-sound r reach .places)
 
 pub creation-field-zero : CreationFieldZero
-creation-field-zero r c frame given a h = zero-field r c frame given a h
+creation-field-zero = zero-field

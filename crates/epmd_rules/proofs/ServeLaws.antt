@@ -51,14 +51,14 @@ result-by r c name = by (below (byName r name) 64) (below (byConnection r c) 64)
   by (inr n) (inr k) (inr f) = is (no-place n k f)
 
 -- with Result 0 no place has the name, none the connection, and one is free
-pub record Registers (r : Registry) (c : ℕ) (name : List ℕ) : Type 0 where
+pub record Admitted (r : Registry) (c : ℕ) (name : List ℕ) : Type 0 where
   pub no-name : 64 ≤ byName r name
   pub no-connection : 64 ≤ byConnection r c
   pub room : lowestFree r < 64
 
-pub result-registers : (r : Registry) (c : ℕ) (name : List ℕ) → resultOf r c name ≡ 0 → Registers r c name
-result-registers r c name e = by (subst (ResultBy r c name) e (result-by r c name)) where
-  by : ResultBy r c name 0 → Registers r c name
+pub result-admits : (r : Registry) (c : ℕ) (name : List ℕ) → resultOf r c name ≡ 0 → Admitted r c name
+result-admits r c name e = by (subst (ResultBy r c name) e (result-by r c name)) where
+  by : ResultBy r c name 0 → Admitted r c name
   by (registered n k f) = record { no-name = n; no-connection = k; room = f }
 
 -- Result is told in one byte

@@ -91,12 +91,18 @@ pub record SomeTaken (r : Registry) (holds : Registration → Type 0) : Type 0 w
   pub held : holds (entryAt r place)
 
 -- "a name in use"
+abbrev pub Named : List ℕ → Registration → Type 0
+Named name p = nameBytes (p .name) ≡ name
+
 abbrev pub NameInUse : Registry → List ℕ → Type 0
-NameInUse r name = SomeTaken r (λ (p : Registration). nameBytes (p .name) ≡ name)
+NameInUse r name = SomeTaken r (Named name)
 
 -- "a connection that has a registration"
+abbrev pub Connected : ℕ → Registration → Type 0
+Connected c p = p .connection ≡ c
+
 abbrev pub ConnectionRegistered : Registry → ℕ → Type 0
-ConnectionRegistered r c = SomeTaken r (λ (p : Registration). p .connection ≡ c)
+ConnectionRegistered r c = SomeTaken r (Connected c)
 
 -- "no place": "all 64 places are taken"
 abbrev pub NoPlace : Registry → Type 0

@@ -9,7 +9,7 @@ use Rattle.epmd_rules.specs.Messages.{alive2Req}
 use Rattle.epmd_rules.specs.Registry.{filled}
 use Rattle.epmd_rules.specs.Replies.{alive2Reply}
 use Rattle.epmd_rules.specs.Serve.{resultOf, registrationOf}
-use Rattle.epmd_rules.proofs.ServeLaws.{alive2-fails, alive2-fills, result-registers}
+use Rattle.epmd_rules.proofs.ServeLaws.{alive2-fails, alive2-fills, result-admits}
 use Rattle.epmd_state.specs.Bytes.{registryOf}
 use borrow.Author.Needs.{needs}
 use Rattle.epmd.proofs.serve.alive2.Statement.{statement}
@@ -68,7 +68,7 @@ fill-requires c κs =
     let k : result ≡ resultOf g (a .connection) name = c .before .before .before .before .before .result-of .ensures ∙ ap (resultOf g (a .connection)) (c .before .before .before .before .before .before .alive2-name .ensures) in
     let zero : result ≡ 0 = omega (arith, c .before .before .before .before .if1) in
     let f = c .before .before .before .before .before .before .before .before .find-free .ensures in
-    (f, omega (arith, f, result-registers g (a .connection) name (sym k ∙ zero) .room), c .before .before .next .ensures, search needs)
+    (f, omega (arith, f, result-admits g (a .connection) name (sym k ∙ zero) .room), c .before .before .next .ensures, search needs)
 
 put-alive2-reply-requires-2 : tie.Need-put-alive2-reply-requires-2
 put-alive2-reply-requires-2 c κs = c .before .before .before .before .before .before .before .before .before .before .before .before .before .before .before .before .before .before .pre .1
