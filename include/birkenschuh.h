@@ -86,6 +86,17 @@ enum {
     BKS_TAG_ACK = 'a'
 };
 
+/*
+ * Result, the second byte of a reply to ALIVE2: the first of 1, 2 and 3 that holds, and 0 if none does. With 1 to 3 nothing changes, and the
+ * creation told is 0. Erlang's own epmd tells 1 whatever the reason.
+ */
+enum {
+    BKS_RESULT_REGISTERED = 0,
+    BKS_RESULT_NAME_IN_USE = 1, /* by this connection or another */
+    BKS_RESULT_CONNECTION_REGISTERED = 2,
+    BKS_RESULT_NO_PLACE = 3
+};
+
 /* ---- the mapper */
 
 typedef struct { uint8_t bytes[BKS_REGISTRY_SIZE]; } bks_registry;
@@ -138,7 +149,10 @@ bks_written bks_names_request(uint8_t *out, size_t out_len);
  * length 5. A result above 0 is the mapper's error. Beside a refusal every other field is 0, and so are those behind result beside an error.
  */
 
-/* tag tells which reply it was, BKS_ALIVE2_X_RESP or BKS_ALIVE2_RESP; the latter has a short creation. */
+/*
+ * tag tells which reply it was, BKS_ALIVE2_X_RESP or BKS_ALIVE2_RESP; the latter has a short creation. result is one of BKS_RESULT_.. if the
+ * mapper is this library's.
+ */
 typedef struct { uint32_t refusal; uint32_t tag; uint32_t result; uint32_t creation; } bks_alive2_reply;
 
 /* The node's fields, none of them examined. Name and extra are parts of the reply, counted from its first byte. */

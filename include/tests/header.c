@@ -1,7 +1,7 @@
 /*
  * The header from C and from C++: that the library is of its version, that structs lie as the library lays them out, 01's worked frames (by
- * bytes, and by a node's own calls), a whole handshake, empty runs, that a refusal writes nothing, and that equal states are equal bytes.
- * Compiled as C11 and as C++17.
+ * bytes, and by a node's own calls), each Result of ALIVE2, a whole handshake, empty runs, that a refusal writes nothing, and that equal
+ * states are equal bytes. Compiled as C11 and as C++17.
  */
 #include "birkenschuh.h"
 
@@ -84,6 +84,40 @@ static void mapper(void) {
     CHECK(bks_registry_new(&other, 4370, 0) == BKS_REFUSED_ZERO_CREATION && memcmp(&r, &other, sizeof r) == 0);
 }
 
+/* ALIVE2 of the name with this number: two letters. */
+static bks_written alive2_of(uint8_t name, bks_registry *r, uint32_t connection, uint8_t highest, uint8_t *out) {
+    const uint8_t first = (uint8_t)('a' + name / 8), second = (uint8_t)('a' + name % 8);
+    const uint8_t frame[] = {0, 15, BKS_ALIVE2_REQ, 0x11, 0x12, 77, 0, 0, highest, 0, 5, 0, 2, first, second, 0, 0};
+    return bks_registry_request(r, connection, frame, sizeof frame, out, BKS_REGISTRY_OUTPUT);
+}
+
+/* Both forms of the reply tell this Result and creation 0, and nothing changes. */
+static bool fails(uint8_t name, bks_registry *r, uint32_t connection, char result) {
+    static uint8_t out[BKS_REGISTRY_OUTPUT];
+    static bks_registry before;
+    const char new_form[] = {BKS_ALIVE2_X_RESP, result, 0, 0, 0, 0}, old_form[] = {BKS_ALIVE2_RESP, result, 0, 0};
+    before = *r;
+    return is_reply(alive2_of(name, r, connection, 6, out), out, new_form, sizeof new_form)
+        && is_reply(alive2_of(name, r, connection, 5, out), out, old_form, sizeof old_form) && memcmp(r, &before, sizeof before) == 0;
+}
+
+/* Connection n registers the name n, up to 63; names are tested first, then connections, then places. */
+static void results(void) {
+    static bks_registry r;
+    static uint8_t out[BKS_REGISTRY_OUTPUT];
+    CHECK(BKS_RESULT_REGISTERED == 0 && BKS_RESULT_NAME_IN_USE == 1 && BKS_RESULT_CONNECTION_REGISTERED == 2 && BKS_RESULT_NO_PLACE == 3);
+    CHECK(bks_registry_new(&r, 4369, 1) == 0);
+    for (uint8_t n = 0; n < BKS_PLACES - 1; n++) CHECK(alive2_of(n, &r, n, 6, out).written == 6 && out[1] == BKS_RESULT_REGISTERED);
+    CHECK(fails(0, &r, 99, BKS_RESULT_NAME_IN_USE) && fails(0, &r, 0, BKS_RESULT_NAME_IN_USE) && fails(62, &r, 0, BKS_RESULT_NAME_IN_USE));
+    CHECK(fails(64, &r, 0, BKS_RESULT_CONNECTION_REGISTERED) && fails(63, &r, 62, BKS_RESULT_CONNECTION_REGISTERED));
+
+    CHECK(IS(alive2_of(63, &r, 63, 6, out), "\x76\x00\x00\x00\x00\x40") && bks_registry_next(&r) == 65);
+    CHECK(fails(63, &r, 99, BKS_RESULT_NAME_IN_USE) && fails(63, &r, 63, BKS_RESULT_NAME_IN_USE) && fails(0, &r, 63, BKS_RESULT_NAME_IN_USE));
+    CHECK(fails(64, &r, 63, BKS_RESULT_CONNECTION_REGISTERED) && fails(64, &r, 0, BKS_RESULT_CONNECTION_REGISTERED));
+    CHECK(fails(64, &r, 99, BKS_RESULT_NO_PLACE) && fails(64, &r, 64, BKS_RESULT_NO_PLACE));
+    CHECK(bks_registry_close(&r, 7) && IS(alive2_of(64, &r, 99, 5, out), "\x79\x00\x00\x03") && bks_registry_next(&r) == 66);
+}
+
 /* A node's three requests: 01's frames, no more room than they need, and nothing written where one is refused. */
 static void requests(void) {
     uint8_t out[BKS_REQUEST_OUTPUT], pattern[BKS_REQUEST_OUTPUT], long_name[255], extra[129];
@@ -114,6 +148,8 @@ static void replies(void) {
     CHECK(a.refusal == 0 && a.tag == BKS_ALIVE2_X_RESP && a.result == 0 && a.creation == 4);
     a = bks_read_alive2(RUN("\x79\x01\x00\x63"));
     CHECK(a.refusal == 0 && a.tag == BKS_ALIVE2_RESP && a.result == 1 && a.creation == 0);
+    a = bks_read_alive2(RUN("\x76\x03\x00\x00\x00\x00"));
+    CHECK(a.refusal == 0 && a.tag == BKS_ALIVE2_X_RESP && a.result == BKS_RESULT_NO_PLACE && a.creation == 0);
     a = bks_read_alive2(RUN("\x77\x01"));
     CHECK(a.refusal == BKS_REFUSED_UNKNOWN_TAG && a.tag == 0 && a.result == 0);
     CHECK(bks_read_alive2(NULL, 0).refusal == BKS_REFUSED_BAD_LENGTH && bks_read_alive2(RUN("\x76\x01")).refusal == BKS_REFUSED_BAD_LENGTH);
@@ -212,6 +248,7 @@ int main(void) {
     CHECK(bks_compare(RUN("a@b"), RUN("a@b")) == 0 && bks_compare(RUN("\xff"), RUN("\x01")) == 1 && bks_compare(NULL, 0, RUN("a")) == -1);
     layout();
     mapper();
+    results();
     requests();
     replies();
     names();

@@ -127,6 +127,21 @@ static void take_reply(void) {
     reply_len = written.written;
 }
 
+/* Each reason not to register, in a full registry. */
+static void results(void) {
+    alive2(BKS_PLACES - 1);
+    connection = BKS_PLACES;
+    measure("bks_registry_request: ALIVE2, Result 1", request);
+    expect(written.written == 6 && out[1] == BKS_RESULT_NAME_IN_USE, "a name in use");
+    alive2(BKS_PLACES);
+    connection = BKS_PLACES - 1;
+    measure("bks_registry_request: ALIVE2, Result 2", request);
+    expect(written.written == 6 && out[1] == BKS_RESULT_CONNECTION_REGISTERED, "a connection that has a registration");
+    connection = BKS_PLACES;
+    measure("bks_registry_request: ALIVE2, Result 3", request);
+    expect(written.written == 6 && out[1] == BKS_RESULT_NO_PLACE, "no place");
+}
+
 static void mapper(void) {
     measure("bks_registry_new", registry_new);
     for (uint32_t i = 0; i < BKS_PLACES; i++) {
@@ -138,9 +153,8 @@ static void mapper(void) {
     take_reply();
     measure("bks_read_alive2", read_alive2);
     expect(registered.tag == BKS_ALIVE2_X_RESP && registered.creation == BKS_PLACES, "a creation");
-    connection = 99;
-    measure("bks_registry_request: ALIVE2, Result 1", request);
-    expect(written.written == 6 && out[1] == 1, "not registered");
+    results();
+    alive2(BKS_PLACES - 1);
     frame[0] = 1, frame[1] = 0, frame[2] = 122;
     memmove(frame + 3, frame + 13, 255);
     frame_len = 258;

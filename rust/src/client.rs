@@ -127,6 +127,16 @@ fn written(told: ffi::bks_written) -> Result<usize, Refusal> {
 }
 
 /// What the mapper says to a registration.
+///
+/// ```
+/// use birkenschuh::client::{read_alive2, Alive2Reply};
+/// use birkenschuh::Alive2Result;
+///
+/// let told = read_alive2(&[118, 3, 0, 0, 0, 0])?;
+/// assert_eq!(told, Alive2Reply::Failed { tag: 118, result: 3 });
+/// assert_eq!(Alive2Result::of(3), Some(Alive2Result::NoPlace)); // by this library's mapper
+/// # Ok::<(), birkenschuh::Refusal>(())
+/// ```
 #[derive(Clone, Copy, Debug, PartialEq, Eq)]
 pub enum Alive2Reply {
     /// Registered, for as long as the connection stays open. (Tag 118: the node speaks version 6.)
@@ -143,7 +153,9 @@ pub enum Alive2Reply {
     Failed {
         /// Which reply it was, 118 or 121.
         tag: u8,
-        /// The mapper's error, above 0.
+        /// The mapper's error, above 0, as it stands: any mapper may have answered. Where it is this
+        /// library's, [`Alive2Result::of`](crate::Alive2Result::of) gives the meaning; Erlang's epmd
+        /// tells 1 whatever the reason.
         result: u8,
     },
 }

@@ -40,7 +40,7 @@ use std::cmp::Ordering;
 pub use endpoint::{Answered, Cookies, Endpoint, Started, ENDPOINT_OUTPUT, ENDPOINT_SIZE, SLOTS};
 pub use refusal::{Refusal, Refused};
 pub use registry::{Registration, Registry, PLACES, REGISTRY_OUTPUT, REGISTRY_SIZE};
-pub use reply::{Asked, Reply};
+pub use reply::{Alive2Result, Asked, Reply};
 pub use slot::{Own, Slot, Stage};
 pub use version::{check, Mismatch};
 

@@ -17,7 +17,7 @@ pub const PLACES: usize = 64;
 /// The port mapper's state: its own port, the next creation and the registered nodes.
 ///
 /// ```
-/// use birkenschuh::{Asked, Registry, REGISTRY_OUTPUT};
+/// use birkenschuh::{Alive2Result, Asked, Registry, REGISTRY_OUTPUT};
 ///
 /// let mut registry = Registry::new(4369, 4)?;
 /// let mut out = [0; REGISTRY_OUTPUT];
@@ -26,7 +26,8 @@ pub const PLACES: usize = 64;
 /// let alive2 = b"\x00\x11x\x11\x12M\x00\x00\x06\x00\x05\x00\x04ride\x00\x00";
 /// let reply = registry.request(1, alive2, &mut out)?;
 /// assert_eq!(out[..reply.written], [118, 0, 0, 0, 0, 4]); // to be sent
-/// assert_eq!(reply.asked, Asked::Alive2 { result: 0, creation: 4 }); // registered
+/// let result = Alive2Result::Registered;
+/// assert_eq!(reply.asked, Asked::Alive2 { result, creation: 4 });
 ///
 /// // PORT_PLEASE2_REQ, from another connection.
 /// let reply = registry.request(2, b"\x00\x05zride", &mut out)?;

@@ -5,6 +5,7 @@
 // `calls` has a `requires`; a refusal writes nothing and changes nothing.
 pub mod calls;
 mod replies;
+mod result;
 mod serve;
 
 pub use calls::close;

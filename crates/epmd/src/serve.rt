@@ -1,6 +1,7 @@
 // Requests and closes, on a registry of the right length.
 use crate::replies::put_names;
 use crate::replies::put_port2;
+use crate::result::result_of;
 use epmd_messages::replies::put_alive2_reply;
 use epmd_messages::requests::alive2_highest;
 use epmd_messages::requests::alive2_name;
@@ -11,20 +12,17 @@ use epmd_rules::registration::Registration;
 use epmd_rules::request::Request;
 use epmd_state::find::find_connection;
 use epmd_state::find::find_free;
-use epmd_state::find::find_name;
 use epmd_state::head::next;
 use epmd_state::head::put_next;
 use epmd_state::layout::PLACES;
 use epmd_state::put::clear;
 use epmd_state::put::put;
 ghost use mathlib.Core.Path.{_≡_};
-ghost use mathlib.Core.Bool.{cond};
 ghost use Prim.Native.Nat.{_≤_, _<_};
 ghost use lib.ListN.{length};
-ghost use lib.Dec.{eqb};
 ghost use Rattle.epmd_rules.specs.Requests.{room};
 ghost use Rattle.epmd_rules.specs.Registry.{lowestFree, stepped, filled, closeOf};
-ghost use Rattle.epmd_rules.specs.Serve.{Alive2Body, resultOf, alive2Of, requestOf};
+ghost use Rattle.epmd_rules.specs.Serve.{Alive2Body, alive2Of, requestOf};
 ghost use Rattle.epmd_state.specs.Bytes.{places, size, registryOf, Does, Closes};
 
 // The creation after this one: 0 is never given.
@@ -46,39 +44,22 @@ fn fill(state: &mut [u8], at: usize, p: Registration, creation: u32)
     put_next(state, step(creation));
 }
 
-// Where a registration would go: 64 if its Result is 1.
-fn place_for(state: &[u8], connection: u32, name: &[u8]) -> usize
-    requires { ⌜ length (now state) ≡ size ⌝ }
-    ensures { λ r. ⌜ r ≡ cond (eqb (resultOf (registryOf (now (state .entry))) connection (now (name .entry))) 0) (lowestFree (registryOf (now (state .entry)))) places ⌝ }
-{
-    if find_name(state, name) < PLACES {
-        return PLACES;
-    }
-    if find_connection(state, connection) < PLACES {
-        return PLACES;
-    }
-    let free = find_free(state);
-    if free < PLACES {
-        return free;
-    }
-    PLACES
-}
-
-// ALIVE2_REQ: fills the lowest free place, or tells Result 1 and changes nothing.
+// ALIVE2_REQ: fills the lowest free place, or tells why not and changes nothing.
 fn alive2(state: &mut [u8], connection: u32, body: &[u8], out: &mut [u8]) -> Answer
     requires { ⌜ (Alive2Body (now body)) × (room ≤ length (now out)) × (length (now state) ≡ size) ⌝ }
     ensures { λ r. ⌜ Does (alive2Of (registryOf (now (state .entry))) connection (now (body .entry))) r (now (state .exit)) (now (out .entry)) (now (out .exit)) ⌝ }
 {
     let highest = alive2_highest(body);
-    let at = place_for(&state[..], connection, alive2_name(body));
-    if PLACES <= at {
-        let n = put_alive2_reply(out, highest, 1, 0);
+    let vacant = find_free(&state[..]);
+    let result = result_of(&state[..], connection, alive2_name(body), vacant);
+    if 0 < result {
+        let n = put_alive2_reply(out, highest, result, 0);
         return Answer::Written(n);
     }
     let creation = next(&state[..]);
     fill(
         state,
-        at,
+        vacant,
         registration_of(body, connection, creation),
         creation,
     );

@@ -10,7 +10,7 @@ use lib.ListN.{length, set, length-set}
 use lib.Seq.{getD-set-same, getD-set-other}
 use Rattle.wire.specs.Frame.{body}
 use Rattle.wire.specs.Layout.{intAt, runAt}
-use Rattle.wire.proofs.LookupLaws.{first-passes, first-before, first-is}
+use Rattle.wire.proofs.LookupLaws.{first-before, first-is}
 use Rattle.names.specs.Held.{nameOf, nameBytes}
 use Rattle.epmd_rules.specs.declared.registration.Registration.{Registration}
 use Rattle.epmd_rules.specs.State.{Registry}
@@ -23,7 +23,8 @@ use Rattle.epmd_rules.specs.Requests.{examineOf}
 use Rattle.epmd_rules.specs.Replies.{alive2Reply}
 use Rattle.epmd_rules.specs.Serve.{Outcome, replied, resultOf, registrationOf, alive2Of, port2Of, namesOf, requestOf, outcomeOf}
 use Rattle.epmd_rules.specs.Claims.{Keeps, RefusalKeeps, FailureKeeps, CreationWraps, TakenKept, FreedNext}
-use Rattle.epmd_rules.proofs.ServeLaws.{call-asked, alive2-fails, alive2-fills, result-free}
+use Rattle.epmd_rules.proofs.ServeLaws.{call-asked, alive2-fails, alive2-fills, result-admits}
+use Rattle.epmd_rules.proofs.PlaceLaws.{lowest-is-free}
 
 -- ---- what a call tells
 
@@ -103,17 +104,12 @@ module _ (r : Registry) (p : Registration) (long : length (r .registrations) ≡
   unfolding entryAt filled
   filled-other i h = getD-set-other (r .registrations) (lowestFree r) i p free h
 
--- the lowest free place is free
-pub lowest-is-free : (r : Registry) → length (r .registrations) ≡ 64 → lowestFree r < 64 → isFree (entryAt r (lowestFree r)) ≡ true
-unfolding entryAt lowestFree
-lowest-is-free r l h = first-passes isFree (r .registrations) free (omega arith)
-
 pub taken-kept : TakenKept
 taken-kept r c frame given i l h t = by (after-request r c frame given) where
   by : {s : Registry} → After r c frame given s → entryAt s i ≡ entryAt r i
   by (same e) = ap (λ (x : Registry). entryAt x i) e
   by (more a z e) =
-      let room = result-free r c (runAt alive2Req 6 (body frame)) z in
+      let room = result-admits r c (runAt alive2Req 6 (body frame)) z .room in
       let other : i ≡ lowestFree r → ⊥ =
       λ (k : i ≡ lowestFree r). (let w : _≡_ {A = ℕ} 0 1 = cc (ap (λ (j : ℕ). isFree (entryAt r j)) k, lowest-is-free r l room) in absurd (omega arith)) in
       ap (λ (x : Registry). entryAt x i) e ∙ filled-other r (registrationOf c (r .next) (body frame)) l room i other

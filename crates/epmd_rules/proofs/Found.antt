@@ -4,7 +4,7 @@ use mathlib.Core.Path.{_≡_, refl, ap, _∙_}
 use mathlib.Core.Bool.{Bool, true, false, cond, _&&_, not}
 use mathlib.Core.List.{List, [], _∷_, _++_}
 use native.Mathlib.Omega.{arith}
-use borrow.Author.Tests.{eqb-true, lt-ltb, ltb-true}
+use borrow.Author.Tests.{lt-ltb, ltb-true}
 use lib.Dec.{eqb, ltb, leb}
 use lib.ListN.{length, length-append}
 use lib.Seq.{getD-set-other}
@@ -13,7 +13,7 @@ use Rattle.wire.specs.Frame.{framed, body}
 use Rattle.wire.specs.Number.{be, beAt}
 use Rattle.wire.specs.Layout.{int, encode, intAt, runAt, behind}
 use Rattle.wire.proofs.FrameLaws.{frame-of}
-use Rattle.wire.proofs.RunLaws.{same-decides, and-right}
+use Rattle.wire.proofs.RunLaws.{same-decides}
 use Rattle.wire.proofs.LookupLaws.{first-passes, first-is}
 use Rattle.names.specs.Held.{nameBytes}
 use Rattle.epmd_rules.specs.State.{Registry}
@@ -30,12 +30,9 @@ use Rattle.epmd_rules.specs.Claims.{Reachable, CloseKeeps, AskedFound, C
 use Rattle.epmd_rules.proofs.RequestLaws.{framed-body, port2-asked}
 use Rattle.epmd_rules.proofs.ReplyLaws.{port2-split}
 use Rattle.epmd_rules.proofs.ServeLaws.{call-asked}
+use Rattle.epmd_rules.proofs.PlaceLaws.{finds-name, finds-connection}
 use Rattle.epmd_rules.proofs.Calls.{Afterwards, none-freed, one-freed, after-close}
 use Rattle.epmd_rules.proofs.Reachable.{always-sound, names-fit}
-
-has-connection : (c : ℕ) (p : Registration) → hasConnection c p ≡ true → p .connection ≡ c
-unfolding hasConnection
-has-connection c p e = eqb-true (p .connection) c (and-right (not (isFree p)) (eqb (p .connection) c) e)
 
 pub close-keeps : CloseKeeps
 unfolding entryAt byConnection
@@ -44,7 +41,7 @@ close-keeps r c i reach h t d = by (after-close r c) where
   by (none-freed e) = ap (λ (x : Registry). entryAt x i) e
   by (one-freed k e) =
       let other : i ≡ byConnection r c → ⊥ = λ (q : i ≡ byConnection r c).
-      d (ap (λ (j : ℕ). entryAt r j .connection) q ∙ has-connection c (entryAt r (byConnection r c)) (first-passes (hasConnection c) (r .registrations) free (omega (arith, always-sound r reach .places)))) in
+      d (ap (λ (j : ℕ). entryAt r j .connection) q ∙ finds-connection c .held (entryAt r (byConnection r c)) (first-passes (hasConnection c) (r .registrations) free (omega (arith, always-sound r reach .places)))) in
       ap (λ (x : Registry). entryAt x i) e ∙ getD-set-other (r .registrations) (byConnection r c) i free free other
 
 module _ (r : Registry) (i : ℕ) (reach : Reachable r) (h : i < 64) (t : isFree (entryAt r i) ≡ false) where
@@ -52,8 +49,7 @@ module _ (r : Registry) (i : ℕ) (reach : Reachable r) (h : i < 64) (t : isFree
   name = nameBytes (entryAt r i .name)
 
   here : hasName name (entryAt r i) ≡ true
-  unfolding hasName
-  here = rw t (same-decides name name .1 refl)
+  here = finds-name name .found (entryAt r i) t refl
 
   not-there : (j : ℕ) → j < i → hasName name (entryAt r j) ≡ false
   unfolding hasName

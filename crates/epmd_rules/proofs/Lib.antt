@@ -1,8 +1,10 @@
 pub mod RequestLaws
 pub mod ReplyLaws
+pub mod PlaceLaws
 pub mod ServeLaws
 pub mod Calls
 pub mod Reachable
 pub mod Found
 pub mod Next
+pub mod Results
 pub mod Promises

@@ -4,6 +4,7 @@ use Rattle.epmd_rules.proofs.Reachable.{always-sound, registered-found,
 use Rattle.epmd_rules.proofs.Calls.{refusal-keeps, failure-keeps, creation-wraps, taken-kept, freed-next}
 use Rattle.epmd_rules.proofs.Found.{close-keeps, asked-found, call-finds, replies-fit}
 use Rattle.epmd_rules.proofs.Next.{next-steps}
+use Rattle.epmd_rules.proofs.Results.{result-tells, creation-field-zero}
 
 pub promises : Promises
 promises =
@@ -11,6 +12,8 @@ promises =
       always-sound = always-sound;
       refusal-keeps = refusal-keeps;
       failure-keeps = failure-keeps;
+      result-tells = result-tells;
+      creation-field-zero = creation-field-zero;
       creation-wraps = creation-wraps;
       next-steps = next-steps;
       taken-kept = taken-kept;

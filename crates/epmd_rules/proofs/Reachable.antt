@@ -1,15 +1,14 @@
 -- Theorems of every registry that making and calls can give (specs/Claims). Assumes nothing.
 use Prim.Native.Nat.{ℕ, suc, _-_, _*_, _≤_, _<_}
 use mathlib.Core.Path.{_≡_, refl, sym, ap, subst, _∙_}
-use mathlib.Core.Bool.{Bool, true, false, cond, _&&_, not}
+use mathlib.Core.Bool.{Bool, true, false, not}
 use mathlib.Core.List.{List, [], _∷_}
 use native.Mathlib.Omega.{arith}
-use borrow.Author.Tests.{eq-eqb, ne-eqb, eqb-true, eqb-false, lt-ltb, ltb-false}
-use lib.Dec.{eqb, ltb}
+use borrow.Author.Tests.{eq-eqb, ne-eqb, eqb-true, eqb-false, lt-ltb}
+use lib.Dec.{eqb}
 use lib.ListN.{length, getD, replicate, length-set, length-replicate, getD-replicate, length-append}
 use lib.Seq.{getD-set-same, getD-set-other, take-at}
 use Rattle.wire.specs.Claims.{Octets}
-use Rattle.wire.specs.Run.{sameBytes}
 use Rattle.wire.specs.Frame.{body}
 use Rattle.wire.specs.Layout.{runAt}
 use Rattle.wire.proofs.RunLaws.{same-decides}
@@ -33,41 +32,8 @@ use Rattle.epmd_rules.specs.Claims.{made, requested, closed, NumbersHeld
 use Rattle.epmd_rules.proofs.Calls.{step-within, After, same, more, after-request, filled-here, filled-other, Afterwards, none-freed, one-freed, after-close, without, free-is-free}
 use Rattle.epmd_rules.proofs.RequestLaws.{alive2-body, alive2-name-some, alive2-named}
 use Rattle.epmd_rules.proofs.ReplyLaws.{line-within}
-use Rattle.epmd_rules.proofs.ServeLaws.{call-asked, alive2-fills, result-free}
-
--- ---- what Result 0 says
-
--- no place has the name, and none the connection
-module _ (r : Registry) (c : ℕ) (name : List ℕ) (e : resultOf r c name ≡ 0) where
-  result-no-name : 64 ≤ byName r name
-  unfolding resultOf
-  result-no-name = by (ltb (byName r name) 64) refl e where
-    by : (t : Bool) → ltb (byName r name) 64 ≡ t → _≡_ {A = ℕ} (cond t 1 (cond (ltb (byConnection r c) 64) 1 (cond (ltb (lowestFree r) 64) 0 1))) 0 → 64 ≤ byName r name
-    by true f g = absurd (omega arith)
-    by false f g = ltb-false (byName r name) 64 f
-
-  result-no-connection : 64 ≤ byConnection r c
-  unfolding resultOf
-  result-no-connection = by (ltb (byName r name) 64) (ltb (byConnection r c) 64) refl e where
-    by : (s t : Bool) → ltb (byConnection r c) 64 ≡ t → _≡_ {A = ℕ} (cond s 1 (cond t 1 (cond (ltb (lowestFree r) 64) 0 1))) 0 → 64 ≤ byConnection r c
-    by true t f g = absurd (omega arith)
-    by false true f g = absurd (omega arith)
-    by false false f g = ltb-false (byConnection r c) 64 f
-
--- a taken place that is not found by a name has another
-other-name : (name : List ℕ) (p : Registration) → hasName name p ≡ false → isFree p ≡ false → nameBytes (p .name) ≡ name → ⊥
-unfolding hasName
-other-name name p h f e =
-    let s : sameBytes (nameBytes (p .name)) name ≡ false = ap (λ (t : Bool). not t && sameBytes (nameBytes (p .name)) name) (sym f) ∙ h in
-    let w : _≡_ {A = ℕ} 0 1 = cc (same-decides (nameBytes (p .name)) name .1 e) in
-    absurd (omega arith)
-
-other-connection : (c : ℕ) (p : Registration) → hasConnection c p ≡ false → isFree p ≡ false → p .connection ≡ c → ⊥
-unfolding hasConnection
-other-connection c p h f e =
-    let s : eqb (p .connection) c ≡ false = ap (λ (t : Bool). not t && eqb (p .connection) c) (sym f) ∙ h in
-    let w : _≡_ {A = ℕ} 0 1 = cc (eq-eqb (p .connection) c e) in
-    absurd (omega arith)
+use Rattle.epmd_rules.proofs.ServeLaws.{call-asked, alive2-fills, result-admits}
+use Rattle.epmd_rules.proofs.PlaceLaws.{finds-name, finds-connection, not-found}
 
 -- ---- making
 
@@ -214,21 +180,21 @@ module _ (r : Registry) (c : ℕ) (frame : List ℕ) (given : ℕ) (a : examineO
 
   module _ (s : RegistrySound r) (z : resultOf r c (runAt alive2Req 6 (body frame)) ≡ 0) where
     room : lowestFree r < 64
-    room = result-free r c (runAt alive2Req 6 (body frame)) z
+    room = result-admits r c (runAt alive2Req 6 (body frame)) z .room
 
     -- every taken place has another name and another connection than the new one
     fresh-name : (i : ℕ) → i < 64 → isFree (entryAt r i) ≡ false → nameBytes (entryAt r i .name) ≡ nameBytes (new .name) → ⊥
     unfolding entryAt byName
     fresh-name i h f e =
-        other-name (runAt alive2Req 6 (body frame)) (entryAt r i)
-        (first-before (hasName (runAt alive2Req 6 (body frame))) (r .registrations) free i (omega (arith, result-no-name r c (runAt alive2Req 6 (body frame)) z)))
+        not-found (finds-name (runAt alive2Req 6 (body frame))) (entryAt r i)
+        (first-before (hasName (runAt alive2Req 6 (body frame))) (r .registrations) free i (omega (arith, result-admits r c (runAt alive2Req 6 (body frame)) z .no-name)))
         f (e ∙ new-name)
 
     fresh-connection : (i : ℕ) → i < 64 → isFree (entryAt r i) ≡ false → entryAt r i .connection ≡ new .connection → ⊥
     unfolding entryAt byConnection
     fresh-connection i h f e =
-        other-connection c (entryAt r i)
-        (first-before (hasConnection c) (r .registrations) free i (omega (arith, result-no-connection r c (runAt alive2Req 6 (body frame)) z)))
+        not-found (finds-connection c) (entryAt r i)
+        (first-before (hasConnection c) (r .registrations) free i (omega (arith, result-admits r c (runAt alive2Req 6 (body frame)) z .no-connection)))
         f (e ∙ new-connection)
 
     here : entryAt (filled r new) (lowestFree r) ≡ new
@@ -297,7 +263,7 @@ module _ (r : Registry) (c : ℕ) (frame : List ℕ) (given : ℕ) (a : examineO
     new-found =
         let name = runAt alive2Req 6 (body frame) in
         first-is (hasName name) (filled r new .registrations) free (lowestFree r) (omega (arith, filled-places, room))
-        (λ j m. ap (hasName name) (there j (λ e. omega arith)) ∙ first-before (hasName name) (r .registrations) free j (omega (arith, result-no-name r c name z, room)))
+        (λ j m. ap (hasName name) (there j (λ e. omega arith)) ∙ first-before (hasName name) (r .registrations) free j (omega (arith, result-admits r c name z .no-name, room)))
         (λ m. ap (hasName name) here ∙ new-has)
 
 -- ---- one registration less
@@ -382,7 +348,7 @@ registered-found r c frame given reach a z =
     ap (λ (o : Outcome). o .registry) (call-asked r c frame given Alive2 a ∙ alive2-fills r c (body frame) (resultOf r c name) refl z)
     ∙ ap (filled r) (unnew r c frame given a) in
     ap (λ (x : Registry). port2Reply x name) e
-    ∙ rw (f, lt-ltb (lowestFree r) 64 (result-free r c name z))
+    ∙ rw (f, lt-ltb (lowestFree r) 64 (result-admits r c name z .room))
     (ap port2Found (here r c frame given a s z ∙ sym (unnew r c frame given a)))
 
 lines-within : (ps : List Registration) → ((i : ℕ) → i < length ps → length (lineOf (getD ps i free)) ≤ lineRoom) → length (nameLines ps) ≤ lineRoom * length ps

@@ -3,11 +3,11 @@ use Prim.Native.Nat.{ℕ, _+_, _≤_, _<_}
 use mathlib.Core.Path.{_≡_}
 use mathlib.Core.Bool.{Bool, true, false, cond, _&&_}
 use mathlib.Core.List.{List, [], _∷_}
-use lib.ListN.{length}
-use lib.Dec.{eqb}
+use lib.ListN.{length, getD}
+use lib.Dec.{eqb, leb}
 use Rattle.wire.specs.Claims.{Octets}
 use Rattle.wire.specs.Frame.{framed, body}
-use Rattle.wire.specs.Layout.{runAt}
+use Rattle.wire.specs.Layout.{intAt, runAt}
 use Rattle.names.specs.Held.{nameOf, nameBytes}
 use Rattle.names.specs.Node.{nodeName}
 use Rattle.epmd_rules.specs.declared.registration.Registration.{Registration}
@@ -80,6 +80,80 @@ abbrev pub FailureKeeps : Type 0
 FailureKeeps =
     (r : Registry) (c : ℕ) (frame : List ℕ) (given : ℕ) → examineOf frame given ≡ Alive2
     → (resultOf r c (runAt alive2Req 6 (body frame)) ≡ 0 → ⊥) → requestOf r c frame given .registry ≡ r
+
+-- ---- ALIVE2's Result
+
+-- a taken place of which something holds
+pub record SomeTaken (r : Registry) (holds : Registration → Type 0) : Type 0 where
+  pub place : ℕ
+  pub within : place < 64
+  pub taken : isFree (entryAt r place) ≡ false
+  pub held : holds (entryAt r place)
+
+-- "a name in use"
+abbrev pub Named : List ℕ → Registration → Type 0
+Named name p = nameBytes (p .name) ≡ name
+
+abbrev pub NameInUse : Registry → List ℕ → Type 0
+NameInUse r name = SomeTaken r (Named name)
+
+-- "a connection that has a registration"
+abbrev pub Connected : ℕ → Registration → Type 0
+Connected c p = p .connection ≡ c
+
+abbrev pub ConnectionRegistered : Registry → ℕ → Type 0
+ConnectionRegistered r c = SomeTaken r (Connected c)
+
+-- "no place": "all 64 places are taken"
+abbrev pub NoPlace : Registry → Type 0
+NoPlace r = (i : ℕ) → i < 64 → isFree (entryAt r i) ≡ false
+
+-- "the lowest free place is filled with the next creation, and that number steps by one": no other place changes
+pub record LowestFilled (r : Registry) (p : Registration) (s : Registry) : Type 0 where
+  pub place : ℕ
+  pub within : place < 64
+  pub was-free : isFree (entryAt r place) ≡ true
+  pub lowest : (i : ℕ) → i < place → isFree (entryAt r i) ≡ false
+  pub here : entryAt s place ≡ p
+  pub elsewhere : (i : ℕ) → (i ≡ place → ⊥) → entryAt s i ≡ entryAt r i
+  pub next : s .next ≡ stepped (r .next)
+  pub port : s .port ≡ r .port
+
+-- the Result that a reply tells: the byte behind its tag
+abbrev pub resultTold : Outcome → ℕ
+resultTold o = getD (o .bytes) 1 0
+
+abbrev pub Exactly : Type 0 → Type 0 → Type 0
+Exactly a b = (a → b) × (b → a)
+
+-- what ALIVE2 with this name and registration is told on a connection, and what it changes
+pub record Alive2Tells (r : Registry) (c : ℕ) (name : List ℕ) (p : Registration) (o : Outcome) : Type 0 where
+  pub name-in-use : Exactly (resultTold o ≡ 1) (NameInUse r name)
+  pub connection-registered : Exactly (resultTold o ≡ 2) ((NameInUse r name → ⊥) × ConnectionRegistered r c)
+  pub no-place : Exactly (resultTold o ≡ 3) ((NameInUse r name → ⊥) × (ConnectionRegistered r c → ⊥) × NoPlace r)
+  pub registered : Exactly (resultTold o ≡ 0) ((NameInUse r name → ⊥) × (ConnectionRegistered r c → ⊥) × (NoPlace r → ⊥))
+  pub fills : resultTold o ≡ 0 → LowestFilled r p (o .registry)
+  pub keeps : (resultTold o ≡ 0 → ⊥) → o .registry ≡ r
+
+-- P2 over the call: Result is 1 exactly if the name is registered, 2 exactly if it is not and the connection has a registration, 3 exactly if
+-- neither and all 64 places are taken, 0 exactly if none of the three, and then the lowest free place is filled; with 1, 2 and 3 nothing
+-- changes (Results.result-tells)
+abbrev pub ResultTells : Type 0
+ResultTells =
+    (r : Registry) (c : ℕ) (frame : List ℕ) (given : ℕ) → Reachable r → examineOf frame given ≡ Alive2
+    → Alive2Tells r c (runAt alive2Req 6 (body frame)) (registrationOf c (r .next) (body frame)) (requestOf r c frame given)
+
+-- P2: "The creation field is 0 with each", in both replies (Results.creation-field-zero)
+abbrev pub CreationFieldZero : Type 0
+CreationFieldZero =
+    (r : Registry) (c : ℕ) (frame : List ℕ) (given : ℕ) → examineOf frame given ≡ Alive2
+    → (resultTold (requestOf r c frame given) ≡ 0 → ⊥)
+    → requestOf r c frame given .bytes
+    ≡ cond (leb 6 (intAt alive2Req 4 (body frame)))
+    (118 ∷ resultTold (requestOf r c frame given) ∷ 0 ∷ 0 ∷ 0 ∷ 0 ∷ [])
+    (121 ∷ resultTold (requestOf r c frame given) ∷ 0 ∷ 0 ∷ [])
+
+-- ---- creations and places
 
 -- the creation after 4,294,967,295 is 1, after any other it is the next number, and none is 0 (Calls.creation-wraps)
 abbrev pub CreationWraps : Type 0
@@ -162,6 +236,8 @@ pub record Promises : Type 0 where
   pub always-sound : AlwaysSound
   pub refusal-keeps : RefusalKeeps
   pub failure-keeps : FailureKeeps
+  pub result-tells : ResultTells
+  pub creation-field-zero : CreationFieldZero
   pub creation-wraps : CreationWraps
   pub next-steps : NextSteps
   pub taken-kept : TakenKept

@@ -19,7 +19,7 @@ use Rattle.epmd_rules.specs.Registry.{byName, entryAt}
 abbrev pub shortCreation : ℕ → ℕ
 shortCreation c = 1 + c % 3
 
--- "With Result 1 the creation field is 0 (house)."
+-- P2: "The creation field is 0 with each"
 abbrev pub creationField : ℕ → ℕ → ℕ
 creationField result c = cond (eqb result 0) c 0
 

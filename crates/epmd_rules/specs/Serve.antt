@@ -46,9 +46,10 @@ replied r bs = record { registry = r; answer = Written (length bs); bytes = bs }
 abbrev pub refused : Registry → Refusal → Outcome
 refused r n = record { registry = r; answer = Refused n; bytes = [] }
 
--- "Result is 1 if the name is registered, if this connection has a registration, or if all 64 places are taken .. Otherwise Result is 0"
+-- P2: "Make ALIVE2's Result 1 for a name in use, 2 for a connection that has a registration, 3 for no place, tested in that order." 01: "Otherwise
+-- Result is 0"
 abbrev pub resultBy : ℕ → ℕ → ℕ → ℕ
-resultBy named connected vacant = cond (ltb named 64) 1 (cond (ltb connected 64) 1 (cond (ltb vacant 64) 0 1))
+resultBy named connected vacant = cond (ltb named 64) 1 (cond (ltb connected 64) 2 (cond (ltb vacant 64) 0 3))
 
 unfoldable pub resultOf : Registry → ℕ → List ℕ → ℕ
 resultOf r c name = resultBy (byName r name) (byConnection r c) (lowestFree r)

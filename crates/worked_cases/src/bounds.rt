@@ -1,5 +1,5 @@
 // C10: the longest name and one byte more, the most extra bytes and one more, the last place and one
-// more.
+// more. P2: what each Result is told for, and which test comes first.
 ghost use Prim.Native.Nat.{_≤_};
 use crate::ask;
 use crate::print::first;
@@ -58,14 +58,30 @@ fn make_with(state: &mut [u8; SIZE], many: usize)
     }
 }
 
-// One registration more.
-fn show_next(many: usize)
-    requires { ⌜ many ≤ 64 ⌝ }
+// ALIVE2 with a name on a connection, both told by a number, at a mapper with this many registrations.
+fn show_result(many: usize, connection: usize, number: usize)
+    requires { ⌜ (many ≤ 64) × (connection ≤ 64) ⌝ }
 {
     let mut state = [0u8; SIZE];
     make_with(&mut state, many);
-    let frame = alive2(4, 0, many);
-    ask(&mut state, many as u32, first(&frame, 19));
+    let frame = alive2(4, 0, number);
+    ask(&mut state, connection as u32, first(&frame, 19));
+}
+
+// The lowest place is that of name 0 and connection 0.
+pub(crate) fn show_results() {
+    word(b"P2 name in use, on another connection: ");
+    show_result(1, 1, 0);
+    word(b"P2 name in use, on its own connection: ");
+    show_result(1, 0, 0);
+    word(b"P2 connection with a registration: ");
+    show_result(1, 0, 1);
+    word(b"P2 name in use, on its own connection, no place: ");
+    show_result(64, 0, 0);
+    word(b"P2 connection with a registration, no place: ");
+    show_result(64, 0, 64);
+    word(b"P2 no place: ");
+    show_result(64, 64, 64);
 }
 
 pub(crate) fn show_bounds() {
@@ -78,7 +94,7 @@ pub(crate) fn show_bounds() {
     word(b"C10 Elen 129: ");
     show_lengths(4, 129);
     word(b"C10 64th registration: ");
-    show_next(63);
+    show_result(63, 63, 63);
     word(b"C10 65th registration: ");
-    show_next(64);
+    show_result(64, 64, 64);
 }

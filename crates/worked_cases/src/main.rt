@@ -1,7 +1,8 @@
-// 01's frames worked by hand, C1 to C10, run through the code: a line a case, with the bytes or the
-// number that it gives. stdout was written by hand from 01. That C1 to C9 hold of
-// the definitions is a theorem of `worked`.
+// 01's frames worked by hand, C1 to C10, and P2's Results, run through the code: a line a case, with
+// the bytes or the number that it gives. stdout was written by hand from 01 and 02. That C1 to C9 hold
+// of the definitions is a theorem of `worked`.
 use bounds::show_bounds;
+use bounds::show_results;
 use epmd::ROOM;
 use epmd::SIZE;
 use handshake::ROOM as MESSAGE;
@@ -82,4 +83,5 @@ fn main() {
     show_names();
     show_text();
     show_bounds();
+    show_results();
 }

@@ -70,6 +70,17 @@ fn requests(case: &str, names: &[Vec<u8>], request: &[u8], close: bool) {
     );
 }
 
+/// Registrations that fail, at a mapper that has these names.
+fn failures(names: Vec<Vec<u8>>) {
+    for (case, name) in [
+        ("ALIVE2, Result 1, first of 64", &names[0]),
+        ("ALIVE2, Result 1, last of 64", &names[63]),
+        ("ALIVE2, Result 3", &b"ride".to_vec()),
+    ] {
+        requests(case, &names, &alive2(name), false);
+    }
+}
+
 pub fn mapper() {
     let short = |i: usize| format!("node{i:02}").into_bytes();
     let long = |i: usize| format!("{:n>253}{i:02}", "").into_bytes();
@@ -96,6 +107,7 @@ pub fn mapper() {
         &alive2(b"ride"),
         true,
     );
+    failures((0..64).map(short).collect());
     let names: Vec<Vec<u8>> = (0..64).map(long).collect();
     requests(
         "PORT_PLEASE2, last of 64 of 255 bytes",

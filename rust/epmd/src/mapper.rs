@@ -6,7 +6,7 @@
 
 use std::time::{Duration, Instant};
 
-use birkenschuh::{Asked, Registry, PLACES, REGISTRY_OUTPUT};
+use birkenschuh::{Alive2Result, Asked, Registry, REGISTRY_OUTPUT};
 
 use crate::callers::Callers;
 use crate::connection::{Connection, Node, Why};
@@ -20,7 +20,7 @@ use crate::sys;
 const LARGE_BYTES: usize = 4 << 20;
 /// The ALIVE2 with a Result above 0 that is a connection's last. So a connection has three replies
 /// at most, and cannot keep the mapper from others.
-const LAST_FAILURE: u8 = 2;
+pub const LAST_FAILURE: u8 = 2;
 
 const ALIVE2_REQ: u8 = 120;
 
@@ -28,11 +28,20 @@ const ALIVE2_REQ: u8 = 120;
 #[derive(Debug, PartialEq, Eq)]
 pub enum Next {
     Wait,
-    /// A registration found no place. A node that ended before may still hold it: once those are
-    /// closed, `answer_all` has the last word.
-    SeekEnded,
+    /// A registration failed by these nodes. Some may have ended unseen: once those are closed,
+    /// `answer_all` has the last word.
+    SeekEnded(InTheWay),
     /// A registration has to wait for a creation until then.
     Hold(Instant),
+}
+
+/// The nodes by which a registration fails.
+#[derive(Debug, PartialEq, Eq)]
+pub enum InTheWay {
+    /// The one that has this name.
+    Name(Vec<u8>),
+    /// All, since they have all places.
+    All,
 }
 
 pub struct Mapper {
@@ -51,15 +60,6 @@ pub struct Rules {
     /// A connection without a node lives no longer.
     pub idle: Duration,
     pub callers: Callers,
-}
-
-/// What a request was, and what it got.
-#[derive(Debug, PartialEq, Eq)]
-enum Outcome {
-    Registered,
-    NotRegistered,
-    /// A reply that is the connection's last.
-    Answered,
 }
 
 impl Mapper {
@@ -95,13 +95,13 @@ impl Mapper {
         self.answer_all(it, now, false)
     }
 
-    /// Answers the frames that are whole, as long as their replies are taken. `sure`: no node's end
-    /// has come unseen.
+    /// Answers the frames that are whole, as long as their replies are taken. `sure`: no node that
+    /// is in the way of the first one has ended unseen.
     pub fn answer_all(
         &mut self,
         it: &mut Connection,
         now: Instant,
-        sure: bool,
+        mut sure: bool,
     ) -> Result<Next, Why> {
         while it.all_sent() && !it.closes {
             let Some(frame) = it.input.frame() else {
@@ -117,14 +117,16 @@ impl Mapper {
                 .request(it.slot, frame, &mut self.out)
                 .map_err(Why::Refused)
                 .inspect_err(|why| self.say_refused(it, why))?;
-            match outcome(reply.asked) {
-                Outcome::Registered => self.registered(it),
-                Outcome::NotRegistered if it.node.is_none() && !sure => return Ok(Next::SeekEnded),
-                Outcome::NotRegistered => self.not_registered(it),
-                Outcome::Answered => it.closes = true,
+            match reply.asked {
+                Asked::Alive2 { result, .. } => match in_the_way(it, name(frame), result) {
+                    Some(nodes) if !sure => return Ok(Next::SeekEnded(nodes)),
+                    _ => self.alive2_answered(it, result),
+                },
+                Asked::PortPlease2 { .. } | Asked::Names => it.closes = true,
             }
             it.send(&self.out[..reply.written], &mut self.budget)?;
             it.input.drop_frame(&mut self.budget);
+            sure = false;
         }
         match it.all_sent() {
             true => Err(Why::Answered),
@@ -152,7 +154,16 @@ impl Mapper {
         may
     }
 
-    /// The node whose ALIVE2 stands at the front.
+    /// What the Result of the ALIVE2 at the front leads to.
+    fn alive2_answered(&mut self, it: &mut Connection, result: Alive2Result) {
+        if result == Alive2Result::Registered {
+            return self.registered(it);
+        }
+        it.failures += 1;
+        it.closes = it.failures == LAST_FAILURE;
+        self.say_not_registered(it, result);
+    }
+
     fn registered(&mut self, it: &mut Connection) {
         // A failure costs only that a vanished machine's node keeps its name for longer.
         let _ = sys::keep_alive(&it.stream);
@@ -167,17 +178,6 @@ impl Mapper {
         debug_assert_eq!(self.registry.next_creation(), self.creations.next());
         self.nodes += 1;
         self.say_node("registered", it, None);
-    }
-
-    fn not_registered(&mut self, it: &mut Connection) {
-        it.failures += 1;
-        it.closes = it.failures == LAST_FAILURE;
-        self.say_not_registered(it);
-    }
-
-    /// The name that a connection wants to register, and whether all places are taken.
-    pub fn sought<'a>(&self, it: &'a Connection) -> (&'a [u8], bool) {
-        (it.input.frame().map_or(b"", name), self.nodes >= PLACES)
     }
 
     /// The connection is closed: frees its place and its memory.
@@ -199,12 +199,14 @@ fn wants_to_register(frame: &[u8]) -> bool {
     frame.get(2) == Some(&ALIVE2_REQ)
 }
 
-/// What the registry did with a request that it did not refuse.
-fn outcome(asked: Asked) -> Outcome {
-    match asked {
-        Asked::Alive2 { result: 0, .. } => Outcome::Registered,
-        Asked::Alive2 { .. } => Outcome::NotRegistered,
-        _ => Outcome::Answered,
+/// Those on whom the Result depends and nobody else, so that a stranger cannot have more
+/// connections looked at. A connection's own node is there: its request came before its end.
+fn in_the_way(it: &Connection, name: &[u8], result: Alive2Result) -> Option<InTheWay> {
+    match result {
+        Alive2Result::NameInUse if it.has_node(name) => None,
+        Alive2Result::NameInUse => Some(InTheWay::Name(name.to_vec())),
+        Alive2Result::NoPlace => Some(InTheWay::All),
+        Alive2Result::Registered | Alive2Result::ConnectionRegistered => None,
     }
 }
 

@@ -2,11 +2,11 @@
 
 use std::io;
 
-use birkenschuh::{Refusal, PLACES};
+use birkenschuh::{Alive2Result, Refusal};
 
 use crate::connection::{Connection, Why};
 use crate::log::Value;
-use crate::mapper::{name, Mapper};
+use crate::mapper::{name, Mapper, LAST_FAILURE};
 
 impl Mapper {
     fn say(&mut self, event: &'static str, it: &Connection, fields: &[(&str, Value)]) {
@@ -54,7 +54,7 @@ impl Mapper {
                 failure = error.to_string();
                 fields.push(("reason", Value::Text(&failure)));
             }
-            Some(Why::Answered) if it.failures == 0 => {
+            Some(Why::Answered) if it.failures < LAST_FAILURE => {
                 fields.push(("reason", Value::Text("asked on its connection")));
             }
             Some(Why::Answered) => fields.push(("reason", Value::Text("registered again"))),
@@ -64,21 +64,17 @@ impl Mapper {
         self.say(event, it, &fields);
     }
 
-    /// An ALIVE2 with Result 1.
-    pub fn say_not_registered(&mut self, it: &Connection) {
+    /// An ALIVE2 with a Result above 0. Real nodes say of each that the name seems to be in use, so
+    /// the log alone tells an operator which it was.
+    pub fn say_not_registered(&mut self, it: &Connection, result: Alive2Result) {
         let Some(frame) = it.input.frame() else {
             return;
         };
-        let reason = if it.node.is_some() {
-            "this connection has registered a node"
-        } else if self.nodes < PLACES {
-            "the name is registered"
-        } else {
-            "the name is registered, or all 64 places are taken"
-        };
+        let reason = result.to_string();
         let fields = [
             ("name", Value::Name(name(frame))),
-            ("reason", Value::Text(reason)),
+            ("result", Value::Number(result.number().into())),
+            ("reason", Value::Text(&reason)),
         ];
         self.say("not-registered", it, &fields);
     }

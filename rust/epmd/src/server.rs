@@ -125,26 +125,18 @@ impl Server {
         self.conclude(token, outcome, now);
     }
 
+    /// Each turn of the loop answers a request, and a connection has three replies at most.
     fn conclude(&mut self, token: u64, mut outcome: Result<Next, Why>, now: Instant) {
-        if let Ok(Next::SeekEnded) = outcome {
-            self.close_ended_nodes(token);
-            if let Some(it) = self.connections.get(token) {
-                outcome = self.mapper.answer_all(it, now, true);
+        while let Ok(Next::SeekEnded(nodes)) = &outcome {
+            for ended in self.connections.ended_nodes(nodes) {
+                self.close(ended, &Why::Ended);
             }
+            let Some(it) = self.connections.get(token) else {
+                return;
+            };
+            outcome = self.mapper.answer_all(it, now, true);
         }
         self.settle(token, outcome);
-    }
-
-    /// Closes the nodes that have ended and may be in the way of a registration.
-    fn close_ended_nodes(&mut self, token: u64) {
-        let Some(it) = self.connections.get(token) else {
-            return;
-        };
-        let (name, all) = self.mapper.sought(it);
-        let name = name.to_vec();
-        for ended in self.connections.ended_nodes(&name, all) {
-            self.close(ended, &Why::Ended);
-        }
     }
 
     /// Waits for what the connection needs next, or closes it.

@@ -4,6 +4,7 @@ use std::net::{SocketAddr, TcpStream};
 use std::time::Instant;
 
 use crate::connection::Connection;
+use crate::mapper::InTheWay;
 use crate::order::Order;
 
 pub struct Table {
@@ -85,12 +86,14 @@ impl Table {
         self.slots[self.callers.first()?].as_ref()
     }
 
-    /// Nodes whose connection has ended, told of by the poll or not: that of `name` alone, since
-    /// nobody else is in its way, or all of them if their places are taken too.
-    pub fn ended_nodes(&self, name: &[u8], all: bool) -> Vec<u64> {
+    /// Those of the nodes whose connection has ended, told of by the poll or not.
+    pub fn ended_nodes(&self, among: &InTheWay) -> Vec<u64> {
         let nodes = self.nodes.iter().filter_map(|&at| self.slots[at].as_ref());
-        let in_the_way = |it: &&Connection| all || it.has_node(name);
-        let ended = nodes.filter(in_the_way).filter(|it| it.has_ended());
+        let is_among = |it: &&Connection| match among {
+            InTheWay::Name(name) => it.has_node(name),
+            InTheWay::All => true,
+        };
+        let ended = nodes.filter(is_among).filter(|it| it.has_ended());
         ended.map(token).collect()
     }
 }

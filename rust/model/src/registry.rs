@@ -1,4 +1,4 @@
-//! 01, "The mapper".
+//! 01, "The mapper", with the Results of 02, P2.
 
 use std::io::Write;
 
@@ -24,6 +24,15 @@ pub struct Registration {
     pub lowest: u16,
     pub name: Short<255>,
     pub extra: Short<LONGEST_EXTRA>,
+}
+
+/// Why a node is not registered. The discriminant is the Result in 02.
+#[derive(Clone, Copy)]
+#[repr(u8)]
+enum NotRegistered {
+    NameInUse = 1,
+    ConnectionHasRegistration = 2,
+    NoPlace = 3,
 }
 
 /// The mapper's state.
@@ -153,7 +162,7 @@ impl Registry {
             name: Short::new(name),
             extra: Short::new(extra),
         });
-        let result = u8::from(creation.is_none());
+        let result = creation.map_or_else(|reason| reason as u8, |_| 0);
         if highest >= 6 {
             let creation = creation.unwrap_or(0);
             out.put(&[118, result]).put(&creation.to_be_bytes());
@@ -164,18 +173,21 @@ impl Registry {
         Ok(())
     }
 
-    /// Fills the lowest free place and gives the creation, unless the name or the connection is
-    /// there already or all places are taken.
-    fn register(&mut self, new: Registration) -> Option<u32> {
-        let is_there = |at: &Registration| *at.name == *new.name || at.connection == new.connection;
-        if self.taken().any(is_there) {
-            return None;
+    /// "Result 1 for a name in use, 2 for a connection that has a registration, 3 for no place, tested
+    /// in that order"; otherwise the lowest free place is filled with the next creation, which steps.
+    fn register(&mut self, new: Registration) -> Result<u32, NotRegistered> {
+        if self.taken().any(|at| *at.name == *new.name) {
+            return Err(NotRegistered::NameInUse);
         }
-        let place = self.places.iter_mut().find(|place| place.is_none())?;
-        *place = Some(new);
+        if self.taken().any(|at| at.connection == new.connection) {
+            return Err(NotRegistered::ConnectionHasRegistration);
+        }
+        let mut places = self.places.iter_mut();
+        let free = places.find(|place| place.is_none());
+        *free.ok_or(NotRegistered::NoPlace)? = Some(new);
         let creation = self.next_creation;
         self.next_creation = creation.checked_add(1).unwrap_or(1);
-        Some(creation)
+        Ok(creation)
     }
 
     fn port_please2(&self, name: &[u8], out: &mut Writer) -> Result<(), Refusal> {

@@ -116,7 +116,7 @@ fn c10_borders() {
         );
     }
     assert_eq!(
-        reply(&mut registry, 64, &alive2(b"late", b"")).unwrap()[1],
-        1
+        reply(&mut registry, 64, &alive2(b"late", b"")).unwrap(),
+        [0x76, 3, 0, 0, 0, 0]
     );
 }

@@ -1,10 +1,11 @@
-//! The boundary itself: the sizes of the states, states as bytes, null pointers, numbers that the
-//! wrapper has to narrow, and what a log would show.
+//! The boundary itself: the sizes of the states, states as bytes, null pointers, the header's numbers,
+//! numbers that the wrapper has to narrow, and what a log would show.
 
 #[path = "../common/mod.rs"]
 mod common;
 
 mod client;
+mod numbers;
 mod sizes;
 
 use std::ptr::{null, null_mut};

@@ -41,6 +41,15 @@ impl Tally {
         assert!(missing.is_empty(), "never reached: {missing:?}");
     }
 
+    /// Seen at least so many times in a thousand of something else.
+    pub fn assert_share(&self, what: &str, in_1000: u64, of: &str) {
+        let (times, all) = (self.times(what), self.times(of));
+        assert!(
+            all > 0 && times * 1000 >= all * in_1000,
+            "{what}: {times} of {all} {of}, less than {in_1000} in 1000"
+        );
+    }
+
     pub fn assert_nothing_but<'a>(&self, whats: impl IntoIterator<Item = &'a str>) {
         let whats: Vec<&str> = whats.into_iter().collect();
         let others = self.0.keys().filter(|seen| !whats.contains(&seen.as_str()));

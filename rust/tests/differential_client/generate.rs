@@ -74,7 +74,7 @@ fn fields(rng: &mut Rng) -> Fields {
 
 fn alive2_reply(rng: &mut Rng) -> Vec<u8> {
     let tag = *rng.pick(&[118, 121, 118, 121, 118, 121, 119, 120]);
-    let mut reply = vec![tag, *rng.pick(&[0, 0, 0, 1, 2, 255])];
+    let mut reply = vec![tag, *rng.pick(&[0, 0, 0, 1, 2, 3, 255])];
     let rest = *rng.pick(&[4, 2]);
     reply.extend(rng.bytes(rest));
     if rng.chance(25) {

@@ -104,7 +104,9 @@ fn full_registry() {
         calls
     });
     assert_eq!(tally.times("reply 118 result 0"), 2 * 65);
-    assert_eq!(tally.times("reply 118 result 1"), 2 * 3);
+    for result in [1, 2, 3] {
+        assert_eq!(tally.times(&format!("reply 118 result {result}")), 2);
+    }
     assert_eq!(tally.times("names, longest reply"), 2 * 2);
     assert_eq!(tally.times("creation wrapped"), 2);
 }

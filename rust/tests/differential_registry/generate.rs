@@ -40,10 +40,13 @@ impl Generator {
         }
     }
 
-    pub fn call(&self, rng: &mut Rng) -> Call {
+    pub fn call(&self, rng: &mut Rng, registry: Option<&model::Registry>) -> Call {
         let connection = *rng.pick(&self.connections);
         if rng.chance(self.closes) {
             return Call::Close { connection };
+        }
+        if let (true, Some(registry)) = (rng.chance(25), registry) {
+            return self.aimed(rng, registry);
         }
         if rng.below(500) == 0 {
             return Call::New {
@@ -80,6 +83,34 @@ impl Generator {
             90..=94 => tagged(rng),
             95..=96 => bad_counts(rng),
             _ => noise(rng),
+        }
+    }
+
+    /// A registration by a connection that has one already, of a name that is registered, by its own
+    /// connection or another, or neither of these.
+    fn aimed(&self, rng: &mut Rng, registry: &model::Registry) -> Call {
+        let taken: Vec<_> = (0..64).filter_map(|place| registry.entry(place)).collect();
+        let mut connection = *rng.pick(&self.connections);
+        let mut asked = name(rng);
+        if !taken.is_empty() {
+            let (one, other) = (*rng.pick(&taken), *rng.pick(&taken));
+            if rng.chance(50) {
+                connection = one.connection;
+            }
+            match rng.below(3) {
+                0 => asked = one.name.to_vec(),
+                1 => asked = other.name.to_vec(),
+                _ => (),
+            }
+        }
+        let request = Alive2 {
+            highest: *rng.pick(&[5, 5, 6, 7]),
+            ..Alive2::of(&asked)
+        };
+        Call::Request {
+            connection,
+            room: REGISTRY_OUTPUT,
+            frame: request.frame(),
         }
     }
 

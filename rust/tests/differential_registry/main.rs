@@ -9,6 +9,8 @@ mod directed;
 mod face;
 mod generate;
 mod pair;
+mod results;
+mod situation;
 
 use calls::Call;
 use common::differ::{report, Compared};
@@ -16,11 +18,12 @@ use common::rng::{rounds, seed, Rng};
 use common::tally::Tally;
 use generate::Generator;
 use pair::Pair;
+use situation::Situation;
 
 const REQUESTS: u64 = 1_000_000;
 
 /// All that a request or a making can come to.
-const EXPECTED: [&str; 22] = [
+const EXPECTED: [&str; 18] = [
     "refusal 1",
     "refusal 3",
     "refusal 4",
@@ -29,10 +32,6 @@ const EXPECTED: [&str; 22] = [
     "refusal 7",
     "refusal 8",
     "refusal 17",
-    "reply 118 result 0",
-    "reply 118 result 1",
-    "reply 121 result 0",
-    "reply 121 result 1",
     "reply 119 result 0",
     "reply 119 result 1",
     "names, none",
@@ -56,7 +55,7 @@ fn sequence(seed: u64, tally: &mut Tally) {
     for at in 0..length {
         calls.push(match at {
             0 => generator.first(&mut rng),
-            _ => generator.call(&mut rng),
+            _ => generator.call(&mut rng, pair.model()),
         });
         if pair.apply(&calls[at], tally).is_err() {
             report::<Pair>(seed, calls);
@@ -83,6 +82,21 @@ fn random_sequences() {
     println!("seed {first}, {sequences} sequences");
     tally.print();
     tally.assert_seen(EXPECTED);
+    assert_results(&tally);
+}
+
+/// Each situation of a registration was met often, with both forms of the reply, and had no Result but
+/// its own.
+fn assert_results(tally: &Tally) {
+    let mut seen = 0;
+    for (situation, result) in Situation::ALL {
+        for tag in [118, 121] {
+            let what = format!("{tag}, {situation}: {result}");
+            tally.assert_share(&what, 5, "registrations");
+            seen += tally.times(&what);
+        }
+    }
+    assert_eq!(seen, tally.times("registrations"));
 }
 
 /// Runs the calls of the file that the variable `BIRKENSCHUH_REPLAY` names, or else a short sequence

@@ -1,11 +1,12 @@
 //! The library's registry beside the model's.
 
-use birkenschuh::{Asked, Registration, PLACES, REGISTRY_OUTPUT};
+use birkenschuh::{Alive2Result, Asked, Registration, PLACES, REGISTRY_OUTPUT};
 
 use crate::calls::Call;
 use crate::common::differ::{outputs, same, states, Compared};
 use crate::common::tally::Tally;
 use crate::face::Face;
+use crate::situation::Situation;
 
 /// Bytes behind the lent output, which nobody may touch.
 const GUARD: usize = 64;
@@ -14,6 +15,8 @@ const GUARD: usize = 64;
 pub struct Pair {
     state: Option<(Face, model::Registry)>,
     ours: Vec<u8>,
+    /// How many bytes of `ours` are the reply to the last request.
+    written: usize,
     expected: Vec<u8>,
     bytes: Vec<u8>,
     calls: usize,
@@ -45,6 +48,15 @@ impl Pair {
         self.state.as_ref().map(|(_, model)| model)
     }
 
+    pub fn library(&self) -> Option<&Face> {
+        self.state.as_ref().map(|(library, _)| library)
+    }
+
+    /// The library's reply to the last request, empty if it was refused.
+    pub fn reply(&self) -> &[u8] {
+        &self.ours[..self.written]
+    }
+
     /// A refused making leaves the registry before it where it is.
     fn make(&mut self, raw: bool, port: u16, first: u32, tally: &mut Tally) -> Result<(), String> {
         let ours = Face::new(raw, port, first);
@@ -64,6 +76,16 @@ impl Pair {
         }
     }
 
+    /// Another pattern at each call: a stray byte has but one chance in 256 to look right.
+    fn new_outputs(&mut self, room: usize) {
+        let pattern = (self.calls * 37) as u8 ^ 0xa5;
+        for output in [&mut self.ours, &mut self.expected] {
+            output.clear();
+            output.resize(room + GUARD, pattern);
+        }
+        self.written = 0;
+    }
+
     fn request(
         &mut self,
         connection: u32,
@@ -71,17 +93,13 @@ impl Pair {
         frame: &[u8],
         tally: &mut Tally,
     ) -> Result<(), String> {
+        self.new_outputs(room);
         let Some((ours, expected)) = &mut self.state else {
             return Ok(());
         };
         tally.count("requests");
-        // Another pattern at each call: a stray byte has but one chance in 256 to look right.
-        let pattern = (self.calls * 37) as u8 ^ 0xa5;
-        for output in [&mut self.ours, &mut self.expected] {
-            output.clear();
-            output.resize(room + GUARD, pattern);
-        }
         let before = expected.next_creation();
+        let situation = Situation::before(expected, connection, frame);
         let answer = ours.request(connection, frame, &mut self.ours[..room]);
         let told = expected.request(connection, frame, &mut self.expected[..room]);
         let told = told.map_err(model::Refusal::number);
@@ -92,11 +110,15 @@ impl Pair {
         }
         match answer {
             Ok((written, asked)) => {
+                self.written = written;
                 let reply = &self.expected[..written];
                 if let Some(asked) = asked {
                     same("what was asked", asked, asked_by(reply, frame[2]))?;
                 }
                 count_reply(reply, frame[2], tally);
+                if let Some(situation) = situation {
+                    count_registration(reply, situation, tally);
+                }
             }
             Err(refusal) => tally.count(format!("refusal {refusal}")),
         }
@@ -156,15 +178,26 @@ fn registration(of: &model::Registration) -> Registration {
     }
 }
 
+/// What a Result means. Said here once more, since the wrapper's `of` would only agree with itself.
+fn meaning(result: u8) -> Alive2Result {
+    match result {
+        0 => Alive2Result::Registered,
+        1 => Alive2Result::NameInUse,
+        2 => Alive2Result::ConnectionRegistered,
+        3 => Alive2Result::NoPlace,
+        _ => unreachable!("the model's Result is {result}"),
+    }
+}
+
 /// What the model's reply says.
 fn asked_by(reply: &[u8], tag: u8) -> Asked {
     match (tag, reply.len()) {
         (120, 6) => Asked::Alive2 {
-            result: reply[1],
+            result: meaning(reply[1]),
             creation: u32::from_be_bytes(reply[2..].try_into().expect("four bytes")),
         },
         (120, _) => Asked::Alive2 {
-            result: reply[1],
+            result: meaning(reply[1]),
             creation: u32::from(reply[2]) * 256 + u32::from(reply[3]),
         },
         (122, length) => Asked::PortPlease2 { found: length > 2 },
@@ -179,4 +212,9 @@ fn count_reply(reply: &[u8], tag: u8, tally: &mut Tally) {
         110 => tally.count("names, some"),
         _ => tally.count(format!("reply {} result {}", reply[0], reply[1])),
     }
+}
+
+fn count_registration(reply: &[u8], found: Situation, tally: &mut Tally) {
+    tally.count("registrations");
+    tally.count(format!("{}, {found}: {}", reply[0], reply[1]));
 }

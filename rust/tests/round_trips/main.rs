@@ -17,11 +17,15 @@ use trip::Trip;
 
 const SEQUENCES: u64 = 400;
 
-const EXPECTED: [&str; 16] = [
-    "registered, 118",
-    "registered, 121",
-    "not registered, 118",
-    "not registered, 121",
+const EXPECTED: [&str; 20] = [
+    "asked to register, 118, Result 0",
+    "asked to register, 118, Result 1",
+    "asked to register, 118, Result 2",
+    "asked to register, 118, Result 3",
+    "asked to register, 121, Result 0",
+    "asked to register, 121, Result 1",
+    "asked to register, 121, Result 2",
+    "asked to register, 121, Result 3",
     "not written, 5",
     "not written, 6",
     "not written, 7",

@@ -69,27 +69,23 @@ impl Trip {
         };
         let before: Vec<Registration> = self.registry.registrations().collect();
         let creation = self.registry.next_creation();
-        let there = |at: &Registration| at.name == fields.name || at.connection == from;
-        let fails = before.len() == PLACES || before.iter().any(there);
+        let result = result(&before, from, &fields.name);
         let told = client::read_alive2(self.served(from, length)?);
         let (tag, short) = match fields.highest {
             6.. => (118, None),
             _ => (121, Some(1 + (creation % 3) as u16)),
         };
-        let expected = match (fails, short) {
-            (true, _) => Alive2Reply::Failed { tag, result: 1 },
-            (false, Some(creation)) => Alive2Reply::RegisteredShort { creation },
-            (false, None) => Alive2Reply::Registered { creation },
+        let expected = match (result, short) {
+            (0, Some(creation)) => Alive2Reply::RegisteredShort { creation },
+            (0, None) => Alive2Reply::Registered { creation },
+            _ => Alive2Reply::Failed { tag, result },
         };
         same("what is told", told, Ok(expected))?;
         let new = (self.registry.registrations()).filter(|at| !before.contains(at));
         let new: Vec<Registration> = new.collect();
-        let wanted = (!fails).then(|| registration(from, creation, fields));
+        let wanted = (result == 0).then(|| registration(from, creation, fields));
         same("what is registered", new, wanted.into_iter().collect())?;
-        tally.count(match fails {
-            true => format!("not registered, {tag}"),
-            false => format!("registered, {tag}"),
-        });
+        tally.count(format!("asked to register, {tag}, Result {result}"));
         Ok(())
     }
 
@@ -140,6 +136,19 @@ impl Trip {
             _ => "listed, some",
         });
         Ok(())
+    }
+}
+
+/// 02's Result of a registration, by what is registered.
+fn result(all: &[Registration], from: u32, name: &[u8]) -> u8 {
+    if all.iter().any(|at| at.name == name) {
+        1
+    } else if all.iter().any(|at| at.connection == from) {
+        2
+    } else if all.len() == PLACES {
+        3
+    } else {
+        0
     }
 }
 

@@ -49,6 +49,10 @@ fn of_extra(length: usize) -> Vec<u8> {
     alive2_of(4370, 77, 0, 6, 5, b"ride", &vec![b'e'; length])
 }
 
+fn many(count: u16) -> Vec<Vec<u8>> {
+    (0..count).map(|at| alive2(&format!("n{at}"), at)).collect()
+}
+
 fn long(tag: u8) -> Vec<u8> {
     let mut body = vec![b'u'; 65_535];
     body[0] = tag;
@@ -62,13 +66,14 @@ pub fn cases() -> Vec<Case> {
     all.extend(name_rules());
     all.extend(questions());
     all.extend(connections());
+    all.extend(behind_alive2());
     all.extend(not_served());
     all
 }
 
 fn registrations() -> Vec<Case> {
     let ride = alive2("ride", 4370);
-    let many: Vec<Vec<u8>> = (0..64).map(|at| alive2(&format!("n{at}"), at)).collect();
+    let many = many(64);
     let mut trailing = ride.clone();
     trailing.push(b'X');
     trailing[1] += 1;
@@ -97,6 +102,8 @@ fn registrations() -> Vec<Case> {
         case("ALIVE2 without extra's length", no_extra),
         case("ALIVE2, name longer than the frame", long_name),
         case("ALIVE2 as the 65th", alive2("late", 9)).after(&many),
+        case("ALIVE2, version 5, as the 65th", of_versions(5, 5)).after(&many),
+        case("ALIVE2 of a name taken, as the 65th", alive2("n9", 9)).after(&many),
     ]
 }
 
@@ -139,8 +146,7 @@ fn questions() -> Vec<Case> {
 }
 
 fn connections() -> Vec<Case> {
-    let ride = alive2("ride", 4370);
-    let taken = [ride.clone()];
+    let taken = [alive2("ride", 4370)];
     let ask = port_please2("ride");
     let byte_by_byte = |request: &[u8]| Case {
         segments: request.iter().map(|&byte| vec![byte]).collect(),
@@ -155,18 +161,34 @@ fn connections() -> Vec<Case> {
             .after(&taken),
         case(
             "ALIVE2 and NAMES in one segment",
-            [&ride[..], NAMES].concat(),
+            [&alive2("ride", 4370)[..], NAMES].concat(),
         ),
-        case("ALIVE2, then ALIVE2", ride.clone()).then(alive2("other", 4371)),
+    ]
+}
+
+fn behind_alive2() -> Vec<Case> {
+    let (ride, other) = (alive2("ride", 4370), alive2("other", 4371));
+    let old_other = alive2_of(4371, 77, 0, 5, 5, b"other", b"");
+    let taken = [ride.clone()];
+    vec![
+        case("ALIVE2, then ALIVE2", ride.clone()).then(other.clone()),
+        case("ALIVE2, version 5, twice", of_versions(5, 5)).then(old_other),
+        case("ALIVE2, then ALIVE2 of its own name", ride.clone()).then(ride.clone()),
+        case("ALIVE2, then ALIVE2 of a name taken", other.clone())
+            .then(ride.clone())
+            .after(&taken),
+        case("ALIVE2 as the 64th, then ALIVE2", ride.clone())
+            .then(other.clone())
+            .after(&many(63)),
         case("ALIVE2, then NAMES", ride.clone()).then(NAMES.to_vec()),
-        case("ALIVE2, then PORT_PLEASE2", ride.clone()).then(ask),
+        case("ALIVE2, then PORT_PLEASE2", ride.clone()).then(port_please2("ride")),
         case("ALIVE2, then an unknown tag", ride.clone()).then(frame(b"?")),
         case("ALIVE2 of a name taken, then ALIVE2", ride.clone())
-            .then(alive2("other", 4371))
+            .then(other)
             .after(&taken),
         case("ALIVE2 of a name taken, three times", ride.clone())
             .then(ride.clone())
-            .then(ride.clone())
+            .then(ride)
             .after(&taken),
     ]
 }

@@ -10,7 +10,7 @@ use crate::support::*;
 const CLIENTS: usize = 200;
 const TIME: Duration = Duration::from_secs(30);
 /// Nodes that stay. With the clients that register too, and their nodes whose end is not seen yet,
-/// the 64 places are never all taken, so no Result 1 is due.
+/// the 64 places are never all taken, so no Result above 0 is due.
 const STAYING: u16 = 32;
 const REGISTERING: usize = 16;
 

@@ -77,9 +77,21 @@ pub const DIFFERENCES: &[Difference] = &[
     ),
     row(
         "ALIVE2 as the 65th",
-        "118 1 0, open; n0 n1 n10 n1... (245)",
+        "118 3 0, open; n0 n1 n10 n1... (245)",
         "118 0 creation, open; late n0 n1 n... (250)",
         "64-places",
+    ),
+    row(
+        "ALIVE2, version 5, as the 65th",
+        "121 3 0, open; n0 n1 n10 n1... (245)",
+        "121 0 creation, open; n0 n1 n10 n1... (250)",
+        "64-places",
+    ),
+    row(
+        "ALIVE2 of a name taken, as the 65th",
+        "118 1 0, open; n0 n1 n10 n1... (245)",
+        "118 1 99, open; n0 n1 n10 n1... (245)",
+        "result-1",
     ),
     row(
         "name with @",
@@ -149,8 +161,32 @@ pub const DIFFERENCES: &[Difference] = &[
     ),
     row(
         "ALIVE2, then ALIVE2",
+        "118 0 creation, 118 2 0, open; ride",
+        "118 0 creation, closed; ",
+        "second-request",
+    ),
+    row(
+        "ALIVE2, version 5, twice",
+        "121 0 creation, 121 2 0, open; ride",
+        "121 0 creation, closed; ",
+        "second-request",
+    ),
+    row(
+        "ALIVE2, then ALIVE2 of its own name",
         "118 0 creation, 118 1 0, open; ride",
         "118 0 creation, closed; ",
+        "second-request",
+    ),
+    row(
+        "ALIVE2, then ALIVE2 of a name taken",
+        "118 0 creation, 118 1 0, open; other ride",
+        "118 0 creation, closed; ride",
+        "second-request",
+    ),
+    row(
+        "ALIVE2 as the 64th, then ALIVE2",
+        "118 0 creation, 118 2 0, open; n0 n1 n10 n1... (246)",
+        "118 0 creation, closed; n0 n1 n10 n1... (241)",
         "second-request",
     ),
     row(

@@ -12,4 +12,5 @@ mod differences;
 mod node;
 mod nodes;
 mod restart;
+mod results;
 mod side_by_side;

@@ -60,7 +60,7 @@ fn a_second_node_of_the_same_name_fails_to_start() {
     let mut second = Node::spawn("a", mapper.port, &[]);
     assert!(!second.process.wait().success());
     second.process.line_with("seems to be in use");
-    mapper.process.line_with("not-registered name=a");
+    mapper.process.line_with("not-registered name=a result=1 ");
     assert_eq!(names(mapper.port), ["a"]);
     assert_eq!(first.eval("is_alive()."), "true");
 }

@@ -55,11 +55,14 @@ fn readable(bytes: &[u8], port: u16) -> String {
         [] => String::new(),
         [118, 0, _, _, _, _, rest @ ..] => format!("118 0 creation, {}", readable(rest, port)),
         [121, 0, _, _, rest @ ..] => format!("121 0 creation, {}", readable(rest, port)),
-        [118, 1, a, b, c, d, rest @ ..] => {
+        [118, result, a, b, c, d, rest @ ..] => {
             let creation = u32::from_be_bytes([*a, *b, *c, *d]);
-            format!("118 1 {creation}, {}", readable(rest, port))
+            format!("118 {result} {creation}, {}", readable(rest, port))
         }
-        [121, 1, a, b] => format!("121 1 {}, ", u16::from_be_bytes([*a, *b])),
+        [121, result, a, b, rest @ ..] => {
+            let creation = u16::from_be_bytes([*a, *b]);
+            format!("121 {result} {creation}, {}", readable(rest, port))
+        }
         [119, 0, rest @ ..] => format!("119 0 {}, ", short(&rest.escape_ascii().to_string())),
         _ if bytes.starts_with(&own_port) => {
             format!("port {:?}, ", String::from_utf8_lossy(&bytes[4..]))

@@ -28,11 +28,10 @@ fn a_full_house_makes_room_for_a_newcomer() {
 #[test]
 fn who_has_asked_is_answered_before_room_is_made() {
     let mapper = Mapper::start(&["--max-connections", "1"]);
-    mapper.process.signal("STOP");
-    let mut callers: Vec<TcpStream> = (0..20)
-        .map(|_| send(mapper.port, &port_please2("nobody")))
-        .collect();
-    mapper.process.signal("CONT");
+    let mut callers: Vec<TcpStream> = Vec::new();
+    mapper.process.while_stopped(|| {
+        callers.extend((0..20).map(|_| send(mapper.port, &port_please2("nobody"))));
+    });
     for caller in &mut callers {
         assert_eq!(read_for(caller, PATIENCE).bytes, b"w\x01");
     }

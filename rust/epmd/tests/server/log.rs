@@ -7,6 +7,7 @@ use std::time::{Duration, Instant};
 use crate::support::*;
 
 const LINES: u64 = 50;
+const DOCUMENT: &str = include_str!("../../../../docs/INTEROP.md");
 
 /// How many lines of a kind were said, and how many are told to be left out.
 fn counted(lines: &[String], kind: &str) -> (u64, u64) {
@@ -17,6 +18,28 @@ fn counted(lines: &[String], kind: &str) -> (u64, u64) {
         said.count() as u64,
         told.map(|it| it.parse::<u64>().unwrap()).sum(),
     )
+}
+
+/// A line without what is another in every run.
+fn lasting(line: &str) -> Vec<&str> {
+    let words = line.split(' ').skip(1);
+    words
+        .filter(|it| !it.starts_with("peer=") && !it.starts_with("connection="))
+        .collect()
+}
+
+#[test]
+fn the_document_shows_lines_as_they_are_written() {
+    let mapper = Mapper::start(&["--first-creation", "3788872128"]);
+    let (node, _) = register(mapper.port, "ride", 4370);
+    read_exactly(&mut send(mapper.port, &alive2("ride", 4371)), 6);
+    assert_eq!(ask(mapper.port, &frame(b"k")), b"");
+    node.shutdown(Shutdown::Both).unwrap();
+    for event in ["registered", "not-registered", "refused", "left"] {
+        let line = mapper.process.line_with(&format!("Z {event} "));
+        let mut shown = DOCUMENT.lines().map(lasting);
+        assert!(shown.any(|it| it == lasting(&line)), "{line}");
+    }
 }
 
 #[test]

@@ -12,3 +12,4 @@ mod namespaces;
 mod program;
 mod refusals;
 mod requests;
+mod results;

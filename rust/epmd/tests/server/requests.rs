@@ -109,38 +109,35 @@ fn silent_clients_hold_up_nobody() {
 }
 
 #[test]
-fn a_second_alive2_of_a_connection_gets_result_1_and_changes_nothing() {
+fn a_second_alive2_of_a_connection_changes_nothing() {
     let mapper = Mapper::start(&[]);
     let (mut node, _) = register(mapper.port, "ride", 4370);
     node.write_all(&alive2("other", 4371)).unwrap();
-    assert_eq!(read_exactly(&mut node, 6), [118, 1, 0, 0, 0, 0]);
+    assert_eq!(read_exactly(&mut node, 6), [118, 2, 0, 0, 0, 0]);
     assert!(is_open(&mut node));
     assert_eq!(names(mapper.port), ["ride"]);
-    mapper.process.line_with("this connection has registered");
 }
 
 #[test]
-fn a_name_taken_gets_result_1_on_a_connection_that_may_try_again() {
+fn a_connection_whose_name_is_in_use_may_try_again() {
     let mapper = Mapper::start(&[]);
     let (_node, _) = register(mapper.port, "ride", 4370);
     let mut late = send(mapper.port, &alive2("ride", 4371));
     assert_eq!(read_exactly(&mut late, 6), [118, 1, 0, 0, 0, 0]);
     assert!(is_open(&mut late));
-    mapper.process.line_with("the name is registered");
     late.write_all(&alive2("late", 4371)).unwrap();
     assert_eq!(read_exactly(&mut late, 6)[..2], [118, 0]);
     assert_eq!(names(mapper.port), ["ride", "late"]);
 }
 
 #[test]
-fn the_65th_node_gets_result_1_until_a_place_is_free() {
+fn the_65th_node_gets_result_3_until_a_place_is_free() {
     let mapper = Mapper::start(&[]);
     let mut nodes: Vec<_> = (0..64)
         .map(|at| register(mapper.port, &format!("n{at}"), at))
         .collect();
     let mut late = send(mapper.port, &alive2("late", 9));
-    assert_eq!(read_exactly(&mut late, 6), [118, 1, 0, 0, 0, 0]);
-    mapper.process.line_with("or all 64 places are taken");
+    assert_eq!(read_exactly(&mut late, 6), [118, 3, 0, 0, 0, 0]);
     drop(nodes.remove(17));
     eventually("n17 is gone", || names(mapper.port).len() == 63);
     register(mapper.port, "late", 9);
@@ -155,6 +152,13 @@ fn a_question_on_a_nodes_own_connection_is_answered_and_ends_both() {
     assert_eq!((reply.bytes.len(), reply.closed), (18, true));
     assert!(names(mapper.port).is_empty());
     mapper.process.line_with("asked on its connection");
+    // It is the question that ends them, whatever came before.
+    let (mut node, _) = register(mapper.port, "other", 4371);
+    let requests = [&alive2("third", 4371)[..], NAMES].concat();
+    node.write_all(&requests).unwrap();
+    assert!(read_for(&mut node, PATIENCE).closed);
+    let line = mapper.process.line_with("left name=other");
+    assert!(line.contains("asked on its connection"), "{line}");
 }
 
 #[test]
@@ -200,7 +204,7 @@ fn a_node_that_registers_twice_more_loses_its_name() {
     node.write_all(&alive2("other", 4371).repeat(2)).unwrap();
     let reply = read_for(&mut node, PATIENCE);
     assert!(reply.closed);
-    assert_eq!(reply.bytes, [118, 1, 0, 0, 0, 0].repeat(2));
+    assert_eq!(reply.bytes, [118, 2, 0, 0, 0, 0].repeat(2));
     assert!(names(mapper.port).is_empty());
     mapper.process.line_with("registered again");
 }
@@ -216,7 +220,10 @@ fn requests_in_a_row_make_nobody_wait() {
     let over = Arc::new(AtomicBool::new(false));
     let (port, ended) = (mapper.port, Arc::clone(&over));
     let crowd = std::thread::spawn(move || {
-        let requests = alive2("ride", 1).repeat(3_000);
+        // For the second the connections of all nodes are looked at.
+        let requests = [alive2("ride", 1), alive2("late", 1)]
+            .concat()
+            .repeat(1_500);
         while !ended.load(Ordering::Relaxed) {
             let mut stream = connect(port);
             let _ = stream.write_all(&requests);

@@ -89,6 +89,14 @@ impl Process {
         assert!(status.expect("kill").success());
     }
 
+    /// What happens meanwhile has happened when it looks again.
+    pub fn while_stopped(&self, what: impl FnOnce()) {
+        self.signal("STOP");
+        eventually("it is stopped", || self.stat()[0] == "T");
+        what();
+        self.signal("CONT");
+    }
+
     pub fn wait(&mut self) -> ExitStatus {
         let mut status = None;
         eventually("the end of a process", || {
@@ -118,11 +126,16 @@ impl Process {
 
     /// Processor time so far, in hundredths of a second.
     pub fn processor_time(&self) -> u64 {
-        let stat = fs::read_to_string(format!("/proc/{}/stat", self.id())).expect("stat");
-        let (_, fields) = stat.rsplit_once(')').expect("a name in parentheses");
-        let fields: Vec<&str> = fields.split_whitespace().collect();
+        let fields = self.stat();
         let number = |at: usize| fields[at].parse::<u64>().expect("a number");
         number(11) + number(12)
+    }
+
+    /// The fields of `/proc/ID/stat` behind its name: the state, and numbers.
+    fn stat(&self) -> Vec<String> {
+        let stat = fs::read_to_string(format!("/proc/{}/stat", self.id())).expect("stat");
+        let (_, fields) = stat.rsplit_once(')').expect("a name in parentheses");
+        fields.split_whitespace().map(str::to_string).collect()
     }
 }
 
