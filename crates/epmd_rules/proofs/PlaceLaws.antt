@@ -53,7 +53,7 @@ pub not-found : {has : Registration → Bool} {holds : Registration → Type 0} 
 not-found finds p h f e = let w : _≡_ {A = ℕ} 0 1 = cc (finds .found p f e, h) in absurd (omega arith)
 
 -- where one of two things is so, and the first exactly if something holds, the second is so exactly if it does not
-pub otherwise : {A B P : Type 0} → A ⊎ B → (A → B → ⊥) → Exactly A P → Exactly B (P → ⊥)
+otherwise : {A B P : Type 0} → A ⊎ B → (A → B → ⊥) → Exactly A P → Exactly B (P → ⊥)
 otherwise one apart e = (λ b p. apart (e .1 p) b, λ h. ⊎-elim (λ a. absurd (h (e .0 a))) (λ b. b) one)
 
 pub below : (n m : ℕ) → (n < m) ⊎ (m ≤ n)

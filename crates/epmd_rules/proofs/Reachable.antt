@@ -11,7 +11,6 @@ use lib.Seq.{getD-set-same, getD-set-other, take-at}
 use Rattle.wire.specs.Claims.{Octets}
 use Rattle.wire.specs.Frame.{body}
 use Rattle.wire.specs.Layout.{runAt}
-use Rattle.wire.proofs.RunLaws.{same-decides}
 use Rattle.wire.proofs.NumberLaws.{octets-drop, beAt-fits}
 use Rattle.wire.proofs.LookupLaws.{first-before, first-is}
 use Rattle.names.specs.Held.{nameOf, nameBytes}
@@ -125,8 +124,7 @@ module _ (r : Registry) (c : ℕ) (frame : List ℕ) (given : ℕ) (a : examineO
   new-taken = ne-eqb (length (nameBytes (new .name))) 0 (λ e. omega (arith, ap length new-name, alive2-name-some frame given a))
 
   new-has : hasName (runAt alive2Req 6 (body frame)) new ≡ true
-  unfolding hasName
-  new-has = rw (new-taken, new-name) (same-decides (runAt alive2Req 6 (body frame)) (runAt alive2Req 6 (body frame)) .1 refl)
+  new-has = finds-name (runAt alive2Req 6 (body frame)) .found new new-taken new-name
 
   new-name-held : length (nameBytes (new .name)) ≤ 255
   new-name-held = omega (arith, ap length new-name, alive2-body frame given a .name)

@@ -24,10 +24,10 @@ use Rattle.epmd_rules.proofs.Calls.{filled-here, filled-other}
 use Rattle.epmd_rules.proofs.Reachable.{always-sound}
 
 -- the byte behind the tag is Result, in both replies
-reply-tells : (highest result c : ℕ) → result < 256 → getD (alive2Reply highest result c) 1 0 ≡ result
+reply-tells : (highest result c : ℕ) → result < 256 → getD (alive2Reply highest result c) 1 256 ≡ result
 unfolding alive2Reply
 reply-tells highest result c h = by (leb 6 highest) refl where
-  by : (t : Bool) → leb 6 highest ≡ t → getD (alive2Reply highest result c) 1 0 ≡ result
+  by : (t : Bool) → leb 6 highest ≡ t → getD (alive2Reply highest result c) 1 256 ≡ result
   by true e = rw e (omega arith)
   by false e = rw e (omega arith)
 

@@ -23,7 +23,7 @@ call-asked r c frame given q e = ap (outcomeOf r c (body frame)) e
 
 -- ---- Result
 
--- Result by the tests that give it: proofs know `resultBy` by this alone
+-- Result by the tests that give it: laws and claims know `resultBy` by this alone
 pub data ResultBy (r : Registry) (c : ℕ) (name : List ℕ) : ℕ → Type 0 where
   name-in-use : byName r name < 64 → ResultBy r c name 1
   connection-registered : 64 ≤ byName r name → byConnection r c < 64 → ResultBy r c name 2

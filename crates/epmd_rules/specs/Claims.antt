@@ -119,9 +119,9 @@ pub record LowestFilled (r : Registry) (p : Registration) (s : Registry) : Type 
   pub next : s .next ≡ stepped (r .next)
   pub port : s .port ≡ r .port
 
--- the Result that a reply tells: the byte behind its tag
+-- the Result that a reply tells: the byte behind its tag; 256, which is no byte, where there is none
 abbrev pub resultTold : Outcome → ℕ
-resultTold o = getD (o .bytes) 1 0
+resultTold o = getD (o .bytes) 1 256
 
 abbrev pub Exactly : Type 0 → Type 0 → Type 0
 Exactly a b = (a → b) × (b → a)

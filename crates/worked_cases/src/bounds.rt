@@ -68,7 +68,7 @@ fn show_result(many: usize, connection: usize, number: usize)
     ask(&mut state, connection as u32, first(&frame, 19));
 }
 
-// The lowest place is that of name 0 and connection 0.
+// The lowest place is that of name 0 and connection 0. C10's 65th registration is Result 3.
 pub(crate) fn show_results() {
     word(b"P2 name in use, on another connection: ");
     show_result(1, 1, 0);
@@ -80,8 +80,6 @@ pub(crate) fn show_results() {
     show_result(64, 0, 0);
     word(b"P2 connection with a registration, no place: ");
     show_result(64, 0, 64);
-    word(b"P2 no place: ");
-    show_result(64, 64, 64);
 }
 
 pub(crate) fn show_bounds() {
