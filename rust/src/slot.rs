@@ -99,10 +99,10 @@ impl fmt::Debug for Slot {
 /// What an endpoint was made with.
 ///
 /// ```
-/// use birkenschuh::Endpoint;
+/// use birkenschuh::{Endpoint, REQUIRED_FLAGS};
 ///
-/// let own = Endpoint::new(b"a@b", 0x100_0104, 7)?.own();
-/// assert_eq!(format!("{own:?}"), r#"Own { name: "a@b", flags: 0x1000104, creation: 7 }"#);
+/// let own = Endpoint::new(b"a@b", REQUIRED_FLAGS, 7)?.own();
+/// assert_eq!(format!("{own:?}"), r#"Own { name: "a@b", flags: 0x403000104, creation: 7 }"#);
 /// # Ok::<(), birkenschuh::Refusal>(())
 /// ```
 #[derive(Clone, PartialEq, Eq)]
