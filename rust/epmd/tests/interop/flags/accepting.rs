@@ -26,7 +26,8 @@ fn declines(node: &Node, port: u16, ours: &str, flags: u64) {
     assert_eq!(status.frame, b"\x00\x0csnot_allowed", "{flags:#x}");
     assert_eq!(status.answer, Err(freed(Refusal::Declined)));
     assert!(joined.step().is_none(), "more than a status");
-    assert_eq!(cannot_handle(node, "from", ours), lacking(flags));
+    let attempt = format!("from node '{ours}' rejected");
+    assert_eq!(cannot_handle(node, &attempt), lacking(flags));
 }
 
 #[test]

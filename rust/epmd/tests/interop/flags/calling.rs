@@ -62,7 +62,8 @@ impl Ours {
         let mut joined = self.is_called(flags, VISIBLE);
         assert!(joined.step().is_none(), "an answer to our challenge");
         assert_eq!(node.end(&connect), "false");
-        assert_eq!(cannot_handle(node, "to", &self.name), lacking(flags));
+        let attempt = format!("to node '{}' aborted", self.name);
+        assert_eq!(cannot_handle(node, &attempt), lacking(flags));
     }
 }
 

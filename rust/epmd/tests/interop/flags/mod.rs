@@ -72,10 +72,9 @@ fn real(words: &[&str]) -> (Mapper, Node, u16) {
     (mapper, node, port)
 }
 
-/// What the node says that a peer cannot handle.
-fn cannot_handle(node: &Node, direction: &str, peer: &str) -> Vec<String> {
-    let said =
-        format!("Connection attempt {direction} node '{peer}' rejected since it cannot handle [");
+/// What the peer of a connection attempt cannot handle, by the node's log.
+fn cannot_handle(node: &Node, attempt: &str) -> Vec<String> {
+    let said = format!("Connection attempt {attempt} since it cannot handle [");
     let list = || {
         let text = node.process.lines().join("\n");
         let (_, rest) = text.split_once(&said)?;
