@@ -67,6 +67,8 @@ fn real(words: &[&str]) -> (Mapper, Node, u16) {
     let mapper = Mapper::start(&[]);
     let mut node = Node::spawn("real", mapper.port, words);
     assert_eq!(node.eval("node()."), format!("'{REAL}'"));
+    let release = node.eval("erlang:system_info(otp_release).");
+    assert_eq!(release, "\"25\"", "each release has flags of its own");
     let told = ask(mapper.port, &port_please2("real"));
     let port = u16::from_be_bytes([told[2], told[3]]);
     (mapper, node, port)
