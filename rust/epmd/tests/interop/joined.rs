@@ -46,13 +46,7 @@ impl Joined {
     pub fn accept(name: &str, flags: u64, listener: &TcpListener) -> Joined {
         let mut endpoint = endpoint(name, flags);
         let slot = endpoint.arrive().expect("a free slot");
-        let mut stream = None;
-        eventually("a node calls", || {
-            stream = listener.accept().ok();
-            stream.is_some()
-        });
-        let (stream, _) = stream.expect("a connection");
-        stream.set_read_timeout(Some(PATIENCE)).expect("timeout");
+        let stream = accept(listener);
         Joined {
             endpoint,
             slot,
@@ -96,6 +90,18 @@ pub fn listen() -> (TcpListener, u16) {
     (listener, port)
 }
 
+/// The connection of a node that calls.
+pub fn accept(listener: &TcpListener) -> TcpStream {
+    let mut stream = None;
+    eventually("a node calls", || {
+        stream = listener.accept().ok();
+        stream.is_some()
+    });
+    let (stream, _) = stream.expect("a connection");
+    stream.set_read_timeout(Some(PATIENCE)).expect("timeout");
+    stream
+}
+
 /// A whole frame, with its length; none where the stream ends before it.
 pub fn read_frame(stream: &mut TcpStream) -> Option<Vec<u8>> {
     let mut frame = vec![0; 2];
@@ -118,15 +124,16 @@ pub fn read_frame(stream: &mut TcpStream) -> Option<Vec<u8>> {
 
 /// A name message of any fields.
 pub fn name_message(flags: u64, creation: u32, name: &str) -> Vec<u8> {
-    let length = u16::try_from(name.len()).expect("a name");
-    frame(
-        &[
-            b"N",
-            &flags.to_be_bytes()[..],
-            &creation.to_be_bytes(),
-            &length.to_be_bytes(),
-            name.as_bytes(),
-        ]
-        .concat(),
-    )
+    message(&[&flags.to_be_bytes(), &creation.to_be_bytes()], name)
+}
+
+/// A challenge message of any fields.
+pub fn challenge_message(flags: u64, challenge: u32, creation: u32, name: &str) -> Vec<u8> {
+    let numbers = [challenge.to_be_bytes(), creation.to_be_bytes()].concat();
+    message(&[&flags.to_be_bytes(), &numbers], name)
+}
+
+fn message(numbers: &[&[u8]], name: &str) -> Vec<u8> {
+    let length = u16::try_from(name.len()).expect("a name").to_be_bytes();
+    frame(&[b"N", &numbers.concat()[..], &length, name.as_bytes()].concat())
 }

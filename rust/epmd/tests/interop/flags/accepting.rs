@@ -1,7 +1,8 @@
 //! Real nodes that we call.
 
-use birkenschuh::{Endpoint, FlagFlaw, Refusal, Stage, REQUIRED_FLAGS};
+use birkenschuh::{FlagFlaw, Refusal, Stage, REQUIRED_FLAGS};
 
+use super::sets::SETS;
 use super::*;
 
 /// A real node takes these flags from us, and its own, told in its challenge, are good here.
@@ -30,24 +31,47 @@ fn declines(node: &Node, port: u16, ours: &str, flags: u64) {
     assert_eq!(cannot_handle(node, &attempt), lacking(flags));
 }
 
+/// What it says to flags that no endpoint can be made with.
+fn status(port: u16, ours: &str, flags: u64) -> Vec<u8> {
+    let mut stream = send(port, &name_message(flags, 7, ours));
+    read_frame(&mut stream).expect("a status")
+}
+
 #[test]
 #[ignore = "needs erl: make check-interop"]
-fn a_real_node_takes_bit_26_or_eleven_others_from_who_calls() {
+fn a_real_node_that_is_called_takes_what_the_document_says() {
     let (_mapper, node, port) = real(&[]);
-    let all_but_26 = REQUIRED_FLAGS | demanded();
-    let taken = [WITH_26, WITH_MONITORS, VISIBLE, HIDDEN, all_but_26];
-    for (at, flags) in taken.into_iter().enumerate() {
-        takes(&node, port, &format!("y{at}@127.0.0.1"), flags, VISIBLE);
-    }
-    assert_eq!(lacking(REQUIRED_FLAGS).len(), 8);
-    declines(&node, port, "n@127.0.0.1", REQUIRED_FLAGS);
-    declines(&node, port, "n36@127.0.0.1", REQUIRED_FLAGS | 1 << 36);
-    for (bit, _) in DEMANDED {
-        let flags = all_but_26 & !(1 << bit);
-        if flags & REQUIRED_FLAGS == REQUIRED_FLAGS {
-            declines(&node, port, &format!("n{bit}@127.0.0.1"), flags);
+    for (at, set) in SETS.into_iter().enumerate() {
+        let ours = format!("c{at}@127.0.0.1");
+        match (set.here, set.called) {
+            ("good", "ok") => takes(&node, port, &ours, set.flags, VISIBLE),
+            ("good", _) => declines(&node, port, &ours, set.flags),
+            (_, word) => assert_eq!(
+                status(port, &ours, set.flags),
+                frame(&[b"s", word.as_bytes()].concat()),
+                "{:#x}",
+                set.flags
+            ),
         }
     }
+}
+
+/// Where bit 26 is clear, each of the others is demanded. (No endpoint lacks 2, 8 or 24.)
+#[test]
+#[ignore = "needs erl: make check-interop"]
+fn a_real_node_demands_eleven_flags() {
+    let (_mapper, mut node, port) = real(&[]);
+    let told = node.eval("{_, _, Mandatory, _, _, _} = erts_internal:get_dflags(), Mandatory.");
+    assert_eq!(told, demanded().to_string());
+    let mut tried = Vec::new();
+    for (bit, _) in DEMANDED {
+        let flags = (REQUIRED_FLAGS | demanded()) & !(1 << bit);
+        if flags & REQUIRED_FLAGS == REQUIRED_FLAGS {
+            declines(&node, port, &format!("n{bit}@127.0.0.1"), flags);
+            tried.push(bit);
+        }
+    }
+    assert_eq!(tried, [4, 7, 9, 10, 11, 16, 17, 18]);
 }
 
 #[test]
@@ -56,28 +80,6 @@ fn a_hidden_node_takes_and_demands_the_same() {
     let (_mapper, node, port) = real(&["-hidden"]);
     takes(&node, port, "y@127.0.0.1", WITH_26, HIDDEN);
     declines(&node, port, "n@127.0.0.1", REQUIRED_FLAGS);
-}
-
-/// The other way about: what real nodes demand is not enough here.
-#[test]
-#[ignore = "needs erl: make check-interop"]
-fn real_nodes_do_not_demand_bits_25_and_34() {
-    let (_mapper, mut node, port) = real(&[]);
-    let told = node.eval("{_, _, Mandatory, _, _, _} = erts_internal:get_dflags(), Mandatory.");
-    assert_eq!(told, demanded().to_string());
-    let missing = |count, lowest| Refusal::BadFlags(FlagFlaw::Missing { count, lowest });
-    for (ours, flags, word, refusal) in [
-        ("y1@127.0.0.1", demanded(), "ok", missing(2, 25)),
-        ("y2@127.0.0.1", 1 << 26, "ok", missing(5, 2)),
-        ("n@127.0.0.1", 0x100_0104, "not_allowed", missing(2, 25)),
-    ] {
-        let name = name_message(flags, 7, ours);
-        let status = read_frame(&mut send(port, &name)).expect("a status");
-        assert_eq!(status, frame(format!("s{word}").as_bytes()));
-        let made = Endpoint::new(ours.as_bytes(), flags, 7);
-        assert_eq!(made.unwrap_err(), refusal);
-        assert_eq!(answer_to(&name).unwrap_err(), freed(refusal));
-    }
 }
 
 /// A node without a name of its own asks for one by bit 33. Who gives it one sets the bit too.

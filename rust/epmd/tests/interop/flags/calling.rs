@@ -1,9 +1,11 @@
 //! Real nodes that call us.
 
+use std::io::Write;
 use std::net::{TcpListener, TcpStream};
 
-use birkenschuh::{FlagFlaw, Refusal, Stage, REQUIRED_FLAGS};
+use birkenschuh::{FlagFlaw, Refusal, Stage};
 
+use super::sets::SETS;
 use super::*;
 
 /// A name under which the nodes of a mapper find us.
@@ -65,19 +67,42 @@ impl Ours {
         let attempt = format!("to node '{}' aborted", self.name);
         assert_eq!(cannot_handle(node, &attempt), lacking(flags));
     }
+
+    /// What the node does when a challenge shows it flags that no endpoint can be made with.
+    fn shows(&self, node: &mut Node, flags: u64) -> &'static str {
+        node.begin(&self.connect());
+        let mut stream = accept(&self.listener);
+        read_frame(&mut stream).expect("a name message");
+        let frames = [
+            frame(b"sok"),
+            challenge_message(flags, 2_026, 7, &self.name),
+        ];
+        stream.write_all(&frames.concat()).expect("send");
+        let does = match read_frame(&mut stream) {
+            Some(reply) if reply[2] == b'r' => "replies",
+            Some(other) => panic!("{other:?}"),
+            None => "closes",
+        };
+        drop(stream);
+        assert_eq!(node.end(&self.connect()), "false");
+        does
+    }
 }
 
 #[test]
 #[ignore = "needs erl: make check-interop"]
-fn a_real_node_takes_the_same_flags_from_who_is_called() {
+fn a_real_node_that_calls_takes_what_the_document_says() {
     let (mapper, mut node, _) = real(&[]);
-    let all_but_26 = REQUIRED_FLAGS | demanded();
-    let ours = Ours::new(&mapper, "ours");
-    for flags in [WITH_26, WITH_MONITORS, VISIBLE, HIDDEN, all_but_26] {
-        ours.is_taken(&mut node, &ours.connect(), flags, VISIBLE);
+    for (at, set) in SETS.into_iter().enumerate() {
+        let ours = Ours::new(&mapper, &format!("c{at}"));
+        match (set.here, set.calls) {
+            ("good", "replies") => {
+                ours.is_taken(&mut node, &ours.connect(), set.flags, VISIBLE);
+            }
+            ("good", _) => ours.is_left(&mut node, set.flags),
+            (_, does) => assert_eq!(ours.shows(&mut node, set.flags), does, "{:#x}", set.flags),
+        }
     }
-    Ours::new(&mapper, "n").is_left(&mut node, REQUIRED_FLAGS);
-    Ours::new(&mapper, "n36").is_left(&mut node, REQUIRED_FLAGS | 1 << 36);
 }
 
 #[test]

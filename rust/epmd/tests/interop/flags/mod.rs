@@ -7,6 +7,7 @@
 
 mod accepting;
 mod calling;
+mod sets;
 
 use birkenschuh::{Answered, Refusal, Refused, ENDPOINT_OUTPUT};
 
@@ -18,8 +19,6 @@ const REAL: &str = "real@127.0.0.1";
 
 /// The required flags and DFLAG_MANDATORY_25_DIGEST, which real nodes have at bit 26.
 const WITH_26: u64 = 0x4_0700_0104;
-/// The same with DIST_MONITOR and DIST_MONITOR_NAME.
-const WITH_MONITORS: u64 = 0x4_0700_012c;
 /// What a real node sends.
 const VISIBLE: u64 = 0xd_07df_7fbd;
 /// What a hidden one sends: without PUBLISHED.
