@@ -50,11 +50,11 @@ none-bad (Bad w) h = absurd (true≢false (h .0))
 -- ---- missing
 
 -- a list whose numbers rise, from lo on
-abbrev Rising : ℕ → List ℕ → Type 0
+abbrev pub Rising : ℕ → List ℕ → Type 0
 Rising lo [] = Unit
 Rising lo (i ∷ is) = (lo ≤ i) × Rising (suc i) is
 
-rising : Rising 0 required
+pub rising : Rising 0 required
 rising = (omega arith, (omega arith, (omega arith, (omega arith, (omega arith, tt)))))
 
 -- none below lo is of such a list
