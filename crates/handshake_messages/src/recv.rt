@@ -12,7 +12,8 @@ ghost use Rattle.handshake_rules.specs.Forms.{flagTests, formTests, nameForm, c
 // What is asked of a message before its stage's rule: the first byte, the length, the name and the
 // flags, in this order (01, refusals 4, 5, 6 and 9).
 
-fn check_flags(flags: u64) -> Check
+// Flags, wherever they come from: what is wrong with them is carried on.
+pub fn check_flags(flags: u64) -> Check
     ensures { λ r. ⌜ r ≡ checked (flagTests (flagTest flags)) ⌝ }
 {
     match flag_test(flags) {
