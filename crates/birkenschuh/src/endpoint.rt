@@ -90,9 +90,8 @@ pub extern "C" fn bks_endpoint_start(e: &mut [u8; SIZE], name: &[u8], out: &mut 
 {
     let answer = handshake::calls::start(e, name, out);
     let n = numbers_of(answer);
-    let why = n.why;
     Started {
-        refusal: why.number,
+        refusal: n.why.number,
         slot: n.slot,
         written: n.written,
     }
@@ -105,9 +104,8 @@ pub extern "C" fn bks_endpoint_arrive(e: &mut [u8; SIZE]) -> Arrived
 {
     let answer = handshake::calls::arrive(e);
     let n = numbers_of(answer);
-    let why = n.why;
     Arrived {
-        refusal: why.number,
+        refusal: n.why.number,
         slot: n.slot,
     }
 }
@@ -119,8 +117,7 @@ pub extern "C" fn bks_endpoint_close(e: &mut [u8; SIZE], slot: u32) -> u32
 {
     let answer = handshake::calls::close(e, slot as usize);
     let n = numbers_of(answer);
-    let why = n.why;
-    why.number
+    n.why.number
 }
 
 // One frame on a slot.
@@ -138,15 +135,14 @@ pub extern "C" fn bks_endpoint_message<'a>(
 {
     let answer = handshake::calls::message(e, slot as usize, frame, challenge, own, standard, out);
     let n = numbers_of(answer);
-    let why = n.why;
     Answered {
-        refusal: why.number,
+        refusal: n.why.number,
         stage: n.stage,
         freed: n.freed,
         ended: n.ended,
         written: n.written,
-        missing: why.missing,
-        lowest: why.lowest,
+        missing: n.why.missing,
+        lowest: n.why.lowest,
     }
 }
 

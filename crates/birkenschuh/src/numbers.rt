@@ -5,6 +5,7 @@ ghost use Rattle.birkenschuh.specs.Endpoint as endpoint;
 use handshake_rules::endpoint::Answer;
 use handshake_rules::endpoint::Freed;
 use handshake_rules::endpoint::Making;
+use handshake_rules::refusal::Refusal;
 use handshake_rules::refusal::Why;
 
 // There are 32 slots, and 32 is none of them.
@@ -58,11 +59,12 @@ fn unrefused() -> Why
     }
 }
 
-fn tell(why: Why, slot: usize, stage: u32, freed: usize, ended: bool, written: usize) -> Numbers
-    ensures { λ r. ⌜ r ≡ endpoint.crossing (rules.tells why slot stage freed written) ended ⌝ }
+// An answer that is no refusal.
+fn tell(slot: usize, stage: u32, freed: usize, ended: bool, written: usize) -> Numbers
+    ensures { λ r. ⌜ r ≡ endpoint.crossing (rules.tells rules.unrefused slot stage freed written) ended ⌝ }
 {
     Numbers {
-        why,
+        why: unrefused(),
         slot: slot_number(slot),
         stage,
         freed: slot_number(freed),
@@ -71,20 +73,33 @@ fn tell(why: Why, slot: usize, stage: u32, freed: usize, ended: bool, written: u
     }
 }
 
+fn refuse(refusal: Refusal) -> Numbers
+    ensures { λ r. ⌜ r ≡ endpoint.refuses refusal ⌝ }
+{
+    Numbers {
+        why: refusal.why(),
+        slot: 0,
+        stage: 0,
+        freed: NO_SLOT as u32,
+        ended: flag(refusal.frees()),
+        written: 0,
+    }
+}
+
 fn answered(stage: u32, freed: Freed, written: usize) -> Numbers
     ensures { λ r. ⌜ r ≡ endpoint.answers stage freed written ⌝ }
 {
-    tell(unrefused(), 0, stage, freed_number(freed), stage == 0, written)
+    tell(0, stage, freed_number(freed), stage == 0, written)
 }
 
 pub fn numbers_of(a: Answer) -> Numbers
     ensures { λ r. ⌜ r ≡ endpoint.toldOf a ⌝ }
 {
     match a {
-        Answer::Refused(refusal) => tell(refusal.why(), 0, 0, NO_SLOT, refusal.frees(), 0),
-        Answer::Begun { slot, count } => tell(unrefused(), slot, 0, NO_SLOT, false, count),
-        Answer::Arrived { slot } => tell(unrefused(), slot, 0, NO_SLOT, false, 0),
-        Answer::Closed => tell(unrefused(), 0, 0, NO_SLOT, false, 0),
+        Answer::Refused(refusal) => refuse(refusal),
+        Answer::Begun { slot, count } => tell(slot, 0, NO_SLOT, false, count),
+        Answer::Arrived { slot } => tell(slot, 0, NO_SLOT, false, 0),
+        Answer::Closed => tell(0, 0, NO_SLOT, false, 0),
         Answer::Answered {
             stage,
             freed,
