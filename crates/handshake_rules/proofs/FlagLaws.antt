@@ -21,12 +21,13 @@ use Rattle.handshake_rules.specs.Claims.{NoneHolds}
 good-from : (is : List ℕ) (f : ℕ) (asked : Bool) → (allSet is f && not asked) ≡ isGood (testOf (missing is f) asked)
 good-from [] f true = refl
 good-from [] f false = refl
-good-from (i ∷ is) f asked = by (bit i f) (good-from is f asked)
+good-from (i ∷ is) f asked = by (bit i f) asked (good-from is f asked)
   where
-    by : (b : Bool) → (allSet is f && not asked) ≡ isGood (testOf (missing is f) asked)
-        → ((b && allSet is f) && not asked) ≡ isGood (testOf (cond b (missing is f) (i ∷ missing is f)) asked)
-    by true h = h
-    by false h = refl
+    by : (b a : Bool) → (allSet is f && not a) ≡ isGood (testOf (missing is f) a)
+        → ((b && allSet is f) && not a) ≡ isGood (testOf (cond b (missing is f) (i ∷ missing is f)) a)
+    by true a h = h
+    by false true h = refl
+    by false false h = refl
 
 pub good-exactly : GoodExactly
 unfolding goodFlags flagTest
@@ -122,7 +123,8 @@ flags-tested f = by (missing required f) (bit nameMe f) refl (tells required 0 f
     by : (m : List ℕ) (asked : Bool) → bit nameMe f ≡ asked → Tells required f m → length m ≡ clearBelow 64 f → Says f (testOf m asked)
     by [] true e h n = (h, e)
     by [] false e h n = (h, e)
-    by (i ∷ rest) asked e h n = record { counted = n; required = h .of; clear = h .clear; first = h .below }
+    by (i ∷ rest) true e h n = record { counted = n; required = h .of; clear = h .clear; first = h .below }
+    by (i ∷ rest) false e h n = record { counted = n; required = h .of; clear = h .clear; first = h .below }
 
 -- of two that are both the lowest neither is lower
 lowest-same : (f c d i j : ℕ) → Lacks f c i → Lacks f d j → i ≡ j
