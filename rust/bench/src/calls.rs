@@ -7,7 +7,7 @@ use std::arch::x86_64::{_mm_lfence, _mm_mfence, _rdtsc};
 use std::hint::black_box;
 use std::time::{Duration, Instant};
 
-const FLAGS: u64 = 0x100_0104;
+const FLAGS: u64 = birkenschuh::REQUIRED_FLAGS;
 const TURNS: usize = 15;
 const TIMES: u32 = 2_000;
 
