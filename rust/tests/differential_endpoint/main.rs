@@ -8,13 +8,15 @@ mod borders;
 mod calls;
 mod face;
 mod fields;
+mod flags;
 mod generate;
 mod pair;
 mod reach;
 mod rules;
+mod told;
 
 use calls::Call;
-use common::differ::{report, Compared};
+use common::differ::{attempt, report};
 use common::rng::{rounds, seed, Rng};
 use common::tally::Tally;
 use generate::Generator;
@@ -22,6 +24,9 @@ use pair::Pair;
 
 /// Besides these there are starts, arrivals and closes.
 const MESSAGES: u64 = 1_000_000;
+
+/// How many in a thousand refusals of flags must be of each flaw: there are 31, and the rarest has 15.
+const FLAW_SHARE: u64 = 5;
 
 /// All that 01 lets a call come to: every refusal at every stage that has it, every step.
 const EXPECTED: &str = "
@@ -60,7 +65,7 @@ AwaitsAck: refusal 5 | AwaitsAck: refusal 15
 AwaitsAck -> Connected
 ";
 
-fn expected() -> impl Iterator<Item = &'static str> {
+fn expected<'a>() -> impl Iterator<Item = &'a str> {
     let all = EXPECTED.split(['|', '\n']);
     all.map(str::trim).filter(|what| !what.is_empty())
 }
@@ -77,7 +82,7 @@ fn sequence(seed: u64, tally: &mut Tally) {
             None => generator.first(&mut rng),
             Some(model) => generator.call(&mut rng, model),
         });
-        if pair.apply(&calls[at], tally).is_err() {
+        if attempt(&mut pair, &calls[at], tally).is_err() {
             report::<Pair>(seed, calls);
         }
     }
@@ -96,7 +101,12 @@ fn random_sequences() {
     println!("seed {first}, {sequences} sequences");
     tally.print();
     tally.assert_seen(expected());
-    tally.assert_nothing_but(expected().chain(["calls", "messages"]));
+    let flaws = flags::flaws();
+    for (call, flaw) in &flaws {
+        tally.assert_share(flaw, FLAW_SHARE, call);
+    }
+    let flaws = flaws.iter().map(|(_, flaw)| flaw.as_str());
+    tally.assert_nothing_but(expected().chain(flaws).chain(["calls", "messages"]));
 }
 
 /// Runs the calls of the file that the variable `BIRKENSCHUH_REPLAY` names, or else a short sequence
