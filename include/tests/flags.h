@@ -37,6 +37,28 @@ static void flags_in_message(size_t i, bool challenge) {
     CHECK(nothing == (x.refusal != 0));
 }
 
+/* One message on slot 0, which awaits a name, a status or, behind a good name message, a reply; its refusal. */
+static uint32_t refused(char awaits, const char *frame, size_t len, size_t room) {
+    static bks_endpoint e;
+    uint8_t out[BKS_ENDPOINT_OUTPUT];
+    const char name[] = "\x00\x12N\x00\x00\x00\x04\x03\x00\x01\x04\x00\x00\x00\x07\x00\x03" "c@d";
+    CHECK(bks_endpoint_new(&e, RUN("a@b"), FLAGS, 7).refusal == 0);
+    CHECK((awaits == 's' ? bks_endpoint_start(&e, RUN("c@d"), out, sizeof out).refusal : bks_endpoint_arrive(&e).refusal) == 0);
+    if (awaits == 'r') CHECK(flagless(bks_endpoint_message(&e, 0, RUN(name), 1, NULL, 0, RUN("ck"), out, sizeof out)).refusal == 0);
+    return flagless(bks_endpoint_message(&e, 0, bytes_of(frame), len, 1, NULL, 0, RUN("ck"), out, room)).refusal;
+}
+
+#define REFUSED(awaits, frame) refused(awaits, frame, sizeof(frame) - 1, BKS_ENDPOINT_OUTPUT)
+
+/* Bad flags too, where a refusal that comes before 9 is told. */
+static void other_refusals(void) {
+    CHECK(refused('N', "\x00\x01N", 3, 299) == 1 && REFUSED('N', "\x00\x01") == 3 && REFUSED('N', "\x00\x01x") == 4);
+    CHECK(REFUSED('N', "\x00\x11N\0\0\0\0\0\0\0\0\0\0\0\7\0\3" "c@") == 5);
+    CHECK(REFUSED('N', "\x00\x12N\0\0\0\0\0\0\0\0\0\0\0\7\0\3" "c@@") == 6);
+    CHECK(REFUSED('s', "\x00\x04snok") == 16 && REFUSED('s', "\x00\x03sko") == 14);
+    CHECK(REFUSED('r', "\x00\x15r" "1234" "0123456789abcdef") == 15);
+}
+
 static void flags(void) {
     static bks_endpoint e, pattern;
     CHECK(BKS_DFLAG_EXTENDED_REFERENCES == 2 && BKS_DFLAG_EXTENDED_PIDS_PORTS == 8 && BKS_DFLAG_HANDSHAKE_23 == 24);
@@ -51,4 +73,5 @@ static void flags(void) {
         flags_in_message(i, false);
         flags_in_message(i, true);
     }
+    other_refusals();
 }
