@@ -34,7 +34,8 @@ pub fn flags_without(missing: &[u32], name_me: bool, others: u64) -> u64 {
 
 /// Some required bits missing, with bit 33 or without; now and then bit 33 alone.
 pub fn bad_flags(rng: &mut Rng) -> u64 {
-    let others = *rng.pick(&[0, !0, rng.clone().next()]);
+    let some = rng.next();
+    let others = *rng.pick(&[0, !0, some]);
     if rng.below(16) == 0 {
         return flags_without(&[], true, others);
     }
