@@ -15,9 +15,11 @@ mod reach;
 mod rules;
 mod told;
 
+use std::collections::HashSet;
+
 use calls::Call;
 use common::differ::{attempt, report};
-use common::rng::{rounds, seed, Rng};
+use common::rng::{rounds, seed, sequence_seed, Rng};
 use common::tally::Tally;
 use generate::Generator;
 use pair::Pair;
@@ -95,7 +97,7 @@ fn random_sequences() {
     let mut tally = Tally::default();
     let mut sequences = 0;
     while tally.times("messages") < wanted {
-        sequence(Rng(first ^ sequences).next(), &mut tally);
+        sequence(sequence_seed(first, sequences), &mut tally);
         sequences += 1;
     }
     println!("seed {first}, {sequences} sequences");
@@ -107,6 +109,16 @@ fn random_sequences() {
     }
     let flaws = flaws.iter().map(|(_, flaw)| flaw.as_str());
     tally.assert_nothing_but(expected().chain(flaws).chain(["calls", "messages"]));
+}
+
+/// Otherwise trying a second seed would say nothing.
+#[test]
+fn another_seed_runs_other_sequences() {
+    let of = |run| (0..3_000).map(move |number| sequence_seed(run, number));
+    let first: HashSet<u64> = of(11).collect();
+    for run in [10, 12, 13, 11 ^ 1 << 40] {
+        assert!(of(run).all(|seed| !first.contains(&seed)), "{run}");
+    }
 }
 
 /// Runs the calls of the file that the variable `BIRKENSCHUH_REPLAY` names, or else a short sequence
