@@ -1,7 +1,6 @@
 -- Laws of the flag test (specs/FlagClaims). Assumes nothing.
-use Prim.Native.Nat.{ℕ, zero, suc, _+_, _<_, _≤_}
-use mathlib.Core.Path.{_≡_, refl, sym, _∙_, ap, ap₂, subst}
-use mathlib.Core.Logic.{_⊎_}
+use Prim.Native.Nat.{ℕ, suc, _+_, _<_, _≤_}
+use mathlib.Core.Path.{_≡_, refl, sym, _∙_, ap, ap₂}
 use mathlib.Core.Bool.{Bool, true, false, true≢false, cond, _&&_, _||_, not}
 use mathlib.Core.List.{List, [], _∷_}
 use native.Mathlib.Omega.{arith}
@@ -13,7 +12,7 @@ use Rattle.handshake_rules.specs.declared.flags.FlagTest.{FlagTest}
 use Rattle.handshake_rules.specs.declared.flags.FlagTest.the-variants.{Good, Bad}
 use Rattle.handshake_rules.specs.Flags.{bit, allSet, required, nameMe, goodFlags, missing, testOf, flagTest}
 use Rattle.handshake_rules.specs.Forms.{flagTests}
-use Rattle.handshake_rules.specs.FlagClaims.{isOneOf, Required, clearBelow, Lacks, NoneMissing, Says, FlagsTested, OneAnswer, isGood, GoodExactly}
+use Rattle.handshake_rules.specs.FlagClaims.{isOneOf, clearBelow, Lacks, Says, FlagsTested, OneAnswer, isGood, GoodExactly}
 use Rattle.handshake_rules.specs.Claims.{NoneHolds}
 
 -- ---- good
@@ -21,12 +20,13 @@ use Rattle.handshake_rules.specs.Claims.{NoneHolds}
 good-from : (is : List ℕ) (f : ℕ) (asked : Bool) → (allSet is f && not asked) ≡ isGood (testOf (missing is f) asked)
 good-from [] f true = refl
 good-from [] f false = refl
-good-from (i ∷ is) f asked = by (bit i f) (good-from is f asked)
+good-from (i ∷ is) f asked = by (bit i f) asked (good-from is f asked)
   where
-    by : (b : Bool) → (allSet is f && not asked) ≡ isGood (testOf (missing is f) asked)
-        → ((b && allSet is f) && not asked) ≡ isGood (testOf (cond b (missing is f) (i ∷ missing is f)) asked)
-    by true h = h
-    by false h = refl
+    by : (b a : Bool) → (allSet is f && not a) ≡ isGood (testOf (missing is f) a)
+        → ((b && allSet is f) && not a) ≡ isGood (testOf (cond b (missing is f) (i ∷ missing is f)) a)
+    by true a h = h
+    by false true h = refl
+    by false false h = refl
 
 pub good-exactly : GoodExactly
 unfolding goodFlags flagTest
@@ -119,10 +119,14 @@ pub flags-tested : FlagsTested
 unfolding flagTest
 flags-tested f = by (missing required f) (bit nameMe f) refl (tells required 0 f rising) (counted f)
   where
+    lacks : (i n : ℕ) → First required f i → n ≡ clearBelow 64 f → Lacks f n i
+    lacks i n h e = record { counted = e; required = h .of; clear = h .clear; first = h .below }
+
     by : (m : List ℕ) (asked : Bool) → bit nameMe f ≡ asked → Tells required f m → length m ≡ clearBelow 64 f → Says f (testOf m asked)
     by [] true e h n = (h, e)
     by [] false e h n = (h, e)
-    by (i ∷ rest) asked e h n = record { counted = n; required = h .of; clear = h .clear; first = h .below }
+    by (i ∷ rest) true e h n = lacks i (length (i ∷ rest)) h n
+    by (i ∷ rest) false e h n = lacks i (length (i ∷ rest)) h n
 
 -- of two that are both the lowest neither is lower
 lowest-same : (f c d i j : ℕ) → Lacks f c i → Lacks f d j → i ≡ j

@@ -1,6 +1,5 @@
--- What is proved of the calls' definitions, beside the contracts that are equations with them; of slots in SlotClaims, of messages in MessageClaims, of refusals and flags in
--- NumberClaims and FlagClaims. Each
--- claim names the theorem in proofs/ that is its proof.
+-- What is proved of the calls' definitions, beside the contracts that are equations with them; of slots in SlotClaims, of messages in MessageClaims, of
+-- refusals in NumberClaims, of flags in FlagClaims. Each claim names the theorem in proofs/ that is its proof.
 use Prim.Native.Nat.{ℕ, _≤_}
 use mathlib.Core.Path.{_≡_}
 use mathlib.Core.Bool.{Bool, true, false}

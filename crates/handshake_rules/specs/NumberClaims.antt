@@ -29,7 +29,7 @@ abbrev pub checkWhy : Check → Why
 checkWhy Pass = unrefused
 checkWhy (Refuse r) = whyOf r
 
--- a refusal that a call can give: 9 carries what the flag test answers of some flags
+-- a refusal that a call can give: 9 carries what the flag test answers of some flags (CarriedOn)
 abbrev pub Givable : Check → Type 0
 Givable Pass = Unit
 Givable (Refuse r) = (w : FlagFlaw) → r ≡ BadFlags w → (f : ℕ) × (flagTest f ≡ Bad w)

@@ -1,7 +1,6 @@
-use mathlib.Core.Path.{sym, ap, _∙_}
+use mathlib.Core.Path.{sym, ap}
 use borrow.Author.Needs.{needs}
 use Rattle.handshake_rules.specs.declared.refusal.Why.{Why}
-use Rattle.handshake_rules.specs.Refusals.{whyOf}
 use Rattle.handshake_rules.proofs.OtherLaws.{other}
 use Rattle.handshake_rules.proofs.refusal.Refusal.missing.Statement.{statement}
 use Rattle.handshake_rules.proofs.refusal.Refusal.missing.Tie as tie
