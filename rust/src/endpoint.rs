@@ -255,9 +255,9 @@ impl fmt::Debug for Cookies<'_> {
 /// What [`Endpoint::start`] tells.
 ///
 /// ```
-/// use birkenschuh::{Endpoint, Started, ENDPOINT_OUTPUT};
+/// use birkenschuh::{Endpoint, Started, ENDPOINT_OUTPUT, REQUIRED_FLAGS};
 ///
-/// let mut endpoint = Endpoint::new(b"a@b", 0x100_0104, 7)?;
+/// let mut endpoint = Endpoint::new(b"a@b", REQUIRED_FLAGS, 7)?;
 /// let started = endpoint.start(b"c@d", &mut [0; ENDPOINT_OUTPUT])?;
 /// assert_eq!(started, Started { slot: 0, written: 20 });
 /// # Ok::<(), birkenschuh::Refusal>(())
@@ -273,10 +273,10 @@ pub struct Started {
 /// What [`Endpoint::message`] tells.
 ///
 /// ```
-/// use birkenschuh::{Answered, Cookies, Endpoint, Stage, ENDPOINT_OUTPUT};
+/// use birkenschuh::{Answered, Cookies, Endpoint, Stage, ENDPOINT_OUTPUT, REQUIRED_FLAGS};
 ///
 /// let mut out = [0; ENDPOINT_OUTPUT];
-/// let mut endpoint = Endpoint::new(b"a@b", 0x100_0104, 7)?;
+/// let mut endpoint = Endpoint::new(b"a@b", REQUIRED_FLAGS, 7)?;
 /// let slot = endpoint.start(b"c@d", &mut out)?.slot;
 /// let cookies = Cookies { own: b"", standard: b"monster" };
 /// let answered = endpoint.message(slot, b"\x00\x03sok", 0, cookies, &mut out)?;
