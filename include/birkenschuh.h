@@ -24,7 +24,7 @@ extern "C" {
 
 /* ---- the version of this header, and of the library that was linked */
 
-#define BKS_ABI 1
+#define BKS_ABI 2
 
 /* How many bytes the states have. */
 #define BKS_REGISTRY_SIZE 25670
@@ -202,6 +202,25 @@ enum {
     BKS_CONNECTED = 7
 };
 
+/* The flags that an endpoint, and every peer, must have. Real nodes ask for more: see docs/INTEROP.md. */
+#define BKS_REQUIRED_FLAGS UINT64_C(0x403000104)
+
+/* Their bits by the protocol's names, and the bit that must be clear. */
+enum {
+    BKS_DFLAG_EXTENDED_REFERENCES = 2,
+    BKS_DFLAG_EXTENDED_PIDS_PORTS = 8,
+    BKS_DFLAG_HANDSHAKE_23 = 24,
+    BKS_DFLAG_UNLINK_ID = 25,
+    BKS_DFLAG_NAME_ME = 33,
+    BKS_DFLAG_V4_NC = 34
+};
+
+/*
+ * Beside 9 missing is how many required flags are clear, 1 to 5, and lowest the lowest of them by its bit; or missing is 0 and lowest 33:
+ * none is clear, but bit 33 is set. Beside every other answer both are 0. So in bks_answered.
+ */
+typedef struct { uint32_t refusal; uint32_t missing; uint32_t lowest; } bks_made;
+
 /* Beside a refusal slot and written are 0. */
 typedef struct { uint32_t refusal; uint32_t slot; size_t written; } bks_started;
 typedef struct { uint32_t refusal; uint32_t slot; } bks_arrived;
@@ -210,7 +229,15 @@ typedef struct { uint32_t refusal; uint32_t slot; } bks_arrived;
  * stage is the slot's new one, and freed another slot that the message freed, or 32; beside a refusal they are 0 and 32. ended is 1 if the
  * slot named is free now by this message, answered or refused, and otherwise 0: then close its connection, and do not call bks_endpoint_close.
  */
-typedef struct { uint32_t refusal; uint32_t stage; uint32_t freed; uint32_t ended; size_t written; } bks_answered;
+typedef struct {
+    uint32_t refusal;
+    uint32_t stage;
+    uint32_t freed;
+    uint32_t ended;
+    size_t written;
+    uint32_t missing;
+    uint32_t lowest;
+} bks_answered;
 
 /* A slot's record: what is not yet recorded, and all of a free slot, is zero. The bytes behind the name's length are zero. */
 typedef struct {
@@ -231,7 +258,7 @@ typedef struct {
 } bks_own;
 
 /* Makes an endpoint; 6 for a bad name, then 9 for bad flags, and then nothing is written. */
-uint32_t bks_endpoint_new(bks_endpoint *e, const uint8_t *name, size_t name_len, uint64_t flags, uint32_t creation);
+bks_made bks_endpoint_new(bks_endpoint *e, const uint8_t *name, size_t name_len, uint64_t flags, uint32_t creation);
 
 /* Starts towards a full name: takes the lowest free slot and writes the name message. */
 bks_started bks_endpoint_start(bks_endpoint *e, const uint8_t *name, size_t name_len, uint8_t *out, size_t out_len);

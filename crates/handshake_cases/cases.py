@@ -9,22 +9,36 @@ import struct
 
 FREE, NAME, ALIVE, REPLY, STATUS, CHALLENGE, ACK, CONNECTED = range(8)
 ACCEPTED, STARTED = (NAME, ALIVE, REPLY), (STATUS, CHALLENGE, ACK)
-GOOD = 0x1000104
+REQUIRED = (2, 8, 24, 25, 34)
+GOOD = sum(1 << bit for bit in REQUIRED)
+
+
+# Every set of missing bits, with bit 33 and without; all other bits set; and the base's three bits.
+FLAGS = [GOOD & ~sum(1 << bit for at, bit in enumerate(REQUIRED) if lost >> at & 1) | asks << 33 for asks in (0, 1) for lost in range(32)]
+FLAGS += [0xFFFFFFFDFFFFFFFF, 0xFFFFFFFFFFFFFFFF, 0xFFFFFFFDFFFFFFFF ^ 1 << 24, 0xFFFFFFFC03000104, 0x1000104]
 
 
 class Refused(Exception):
-    """A refusal's number, and whether the slot named is freed."""
+    """A refusal's number, whether the slot named is freed, and what is told of flags."""
 
-    def __init__(self, number, frees=False):
-        self.number, self.frees = number, frees
+    def __init__(self, number, frees=False, flaw=(0, 0)):
+        self.number, self.frees, self.flaw = number, frees, flaw
+
+    def __str__(self):
+        return "refused %d %d %d" % (self.number, *self.flaw)
 
 
 def full_name(n):
     return 3 <= len(n) <= 255 and n.count(b"@") == 1 and n[0] != 64 and n[-1] != 64
 
 
-def good_flags(f):
-    return f & GOOD == GOOD and not f >> 33 & 1
+def test_flags(f, frees=False):
+    """Missing bits are told first, by how many and the lowest; then bit 33."""
+    missing = [bit for bit in REQUIRED if not f >> bit & 1]
+    if missing:
+        raise Refused(9, frees, (len(missing), min(missing)))
+    if f >> 33 & 1:
+        raise Refused(9, frees, (0, 33))
 
 
 def digest(challenge, cookie):
@@ -121,8 +135,7 @@ class Endpoint:
         if not full_name(name) or expected is not None and name != expected:
             raise Refused(6, True)
         flags = struct.unpack(">Q", body[1:9])[0]
-        if not good_flags(flags):
-            raise Refused(9, True)
+        test_flags(flags, True)
         return flags, name
 
     def on_name(self, at, slot, body, challenge, cookie):
@@ -193,12 +206,13 @@ class Script:
         self.lines.append(line)
 
     def new(self, e, name, flags=GOOD, creation=7):
-        if not full_name(name):
-            line = "refused 6"
-        elif not good_flags(flags):
-            line = "refused 9"
-        else:
+        try:
+            if not full_name(name):
+                raise Refused(6)
+            test_flags(flags)
             line, self.ends[e] = "made", Endpoint(name, flags, creation)
+        except Refused as r:
+            line = str(r)
         self.put(b"n", e, struct.pack(">QI", flags, creation) + name, line)
 
     def start(self, e, name, room=300):
@@ -207,7 +221,7 @@ class Script:
             at, written = self.ends[e].start(name, room)
             line = "begun %d %d" % (at, len(written))
         except Refused as r:
-            line = "refused %d" % r.number
+            line = str(r)
         self.put(b"s", e, struct.pack(">H", room) + name, "%s %s" % (line, output(written)))
         return written
 
@@ -215,7 +229,7 @@ class Script:
         try:
             line = "arrived %d" % self.ends[e].arrive()
         except Refused as r:
-            line = "refused %d" % r.number
+            line = str(r)
         self.put(b"a", e, b"", line)
 
     def close(self, e, at):
@@ -223,7 +237,7 @@ class Script:
             self.ends[e].close(at)
             line = "closed"
         except Refused as r:
-            line = "refused %d" % r.number
+            line = str(r)
         self.put(b"c", e, struct.pack(">H", at), line)
 
     def message(self, e, at, frame, challenge=5, own=b"", standard=b"monster", room=300, look=True):
@@ -237,7 +251,7 @@ class Script:
         except Refused as r:
             if r.frees:
                 end.slots[at] = Slot()
-            line = "refused %d" % r.number
+            line = str(r)
         self.put(b"m", e, struct.pack(">HIHHH", at, challenge, room, len(own), len(standard)) + own + standard + frame,
                  "%s %s" % (line, output(written)))
         if look:
@@ -288,8 +302,8 @@ def main():
     s.new(0, b"@ab")
     s.new(0, b"ab")
     s.new(0, b"a@" + b"b" * 254)
-    s.new(0, b"a@b", 0x1000100)
-    s.new(0, b"a@b", GOOD | 1 << 33)
+    for flags in FLAGS:
+        s.new(0, b"a@b", flags)
     s.new(0, b"a@" + b"b" * 253)
     # one that is not made leaves what is there
     s.arrive(0)
@@ -386,8 +400,7 @@ def main():
         stage(st)
         s.message(0, 2, framed(ok[st] + b"\0"))
     for st, make in ((NAME, name_body), (CHALLENGE, challenge_body)):
-        for name, flags in ((b"px", GOOD), (b"p@", GOOD), (b"q@x", GOOD), (b"p@x", GOOD ^ 4), (b"p@x", GOOD ^ 256), (b"p@x", GOOD ^ 1 << 24),
-                            (b"p@x", GOOD | 1 << 33), (b"p@x", 0xFFFFFFFDFFFFFFFF), (b"p@x", 0)):
+        for name, flags in ((b"px", GOOD), (b"p@", GOOD), (b"px", 0), (b"q@x", GOOD), *((b"p@x", flags) for flags in FLAGS)):
             stage(st)
             s.message(0, 2, framed(make(name, flags)))
         stage(st)
@@ -472,7 +485,7 @@ def main():
     s.new(0, b"a@b")
     s.start(0, b"p@x")
     s.show(0, 0)
-    for op, line in ((b"d", s.lines[-1]), (b"s", "refused 1 " + output(b"")), (b"m", "refused 1 " + output(b"")), (b"n", "refused 6"), (b"c", "closed"), (b"d\0\0", "slot 0  0 0 0")):
+    for op, line in ((b"d", s.lines[-1]), (b"s", "refused 1 0 0 " + output(b"")), (b"m", "refused 1 0 0 " + output(b"")), (b"n", "refused 6 0 0"), (b"c", "closed"), (b"d\0\0", "slot 0  0 0 0")):
         s.calls.append(struct.pack(">H", len(op)) + op)
         s.lines.append(line)
     s.calls.append(b"\0\3d\0")

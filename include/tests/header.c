@@ -1,7 +1,7 @@
 /*
  * The header from C and from C++: that the library is of its version, that structs lie as the library lays them out, 01's worked frames (by
- * bytes, and by a node's own calls), each Result of ALIVE2, a whole handshake, empty runs, that a refusal writes nothing, and that equal
- * states are equal bytes. Compiled as C11 and as C++17.
+ * bytes, and by a node's own calls), each Result of ALIVE2, a whole handshake, what is told of flags, empty runs, that a refusal writes
+ * nothing, and that equal states are equal bytes. Compiled as C11 and as C++17.
  */
 #include "birkenschuh.h"
 
@@ -22,17 +22,20 @@ static const uint8_t *bytes_of(const char *text) { return (const uint8_t *)text;
 
 #define RUN(text) bytes_of(text), sizeof(text) - 1
 
-static const uint64_t FLAGS = 0x1000104;
+static const uint64_t FLAGS = BKS_REQUIRED_FLAGS;
 
 /* No byte of a state is padding, and none needs an alignment. */
 static void layout(void) {
     struct { char before; bks_registry r; } beside_r;
     struct { char before; bks_endpoint e; } beside_e;
     CHECK(BKS_MATCHES());
-    CHECK(bks_abi() == 1 && bks_registry_size() == 25670 && bks_endpoint_size() == 9004);
+    CHECK(bks_abi() == 2 && bks_registry_size() == 25670 && bks_endpoint_size() == 9004);
     CHECK(sizeof(bks_registry) == BKS_REGISTRY_SIZE && sizeof beside_r == BKS_REGISTRY_SIZE + 1);
     CHECK(sizeof(bks_endpoint) == BKS_ENDPOINT_SIZE && sizeof beside_e == BKS_ENDPOINT_SIZE + 1);
-    CHECK(sizeof(bks_started) == 16 && sizeof(bks_arrived) == 8 && sizeof(bks_answered) == 24 && sizeof(bks_written) == 16);
+    CHECK(sizeof(bks_started) == 16 && sizeof(bks_arrived) == 8 && sizeof(bks_written) == 16);
+    CHECK(sizeof(bks_made) == 12 && offsetof(bks_made, missing) == 4 && offsetof(bks_made, lowest) == 8);
+    CHECK(sizeof(bks_answered) == 32 && offsetof(bks_answered, written) == 16 && offsetof(bks_answered, missing) == 24);
+    CHECK(offsetof(bks_answered, ended) == 12 && offsetof(bks_answered, lowest) == 28);
     CHECK(sizeof(bks_registration) == 404 && offsetof(bks_registration, port) == 388 && offsetof(bks_registration, creation) == 400);
     CHECK(sizeof(bks_alive2_reply) == 16 && offsetof(bks_alive2_reply, result) == 8 && offsetof(bks_alive2_reply, creation) == 12);
     CHECK(sizeof(bks_port2_reply) == 32 && offsetof(bks_port2_reply, port) == 8 && offsetof(bks_port2_reply, kind) == 14);
@@ -177,43 +180,48 @@ static void names(void) {
     CHECK(bks_read_names(bytes_of(one), sizeof one).refusal == BKS_REFUSED_BAD_LENGTH && bks_read_names(NULL, 0).refusal == BKS_REFUSED_BAD_LENGTH);
 }
 
+/* Beside any answer but 9 nothing is told of flags. */
+static bks_answered flagless(bks_answered w) {
+    CHECK(w.refusal != 9 && w.missing == 0 && w.lowest == 0);
+    return w;
+}
+
 static void handshake(void) {
     static bks_endpoint a, b;
     uint8_t to_b[BKS_ENDPOINT_OUTPUT], to_a[BKS_ENDPOINT_OUTPUT];
 
-    CHECK(bks_endpoint_new(&a, RUN("a"), FLAGS, 7) == 6);
-    CHECK(bks_endpoint_new(&a, RUN("a@b"), 4, 7) == 9);
-    CHECK(bks_endpoint_new(&a, RUN("a@b"), FLAGS, 7) == 0);
-    CHECK(bks_endpoint_new(&b, RUN("c@d"), FLAGS, 8) == 0);
+    CHECK(bks_endpoint_new(&a, RUN("a"), FLAGS, 7).refusal == 6);
+    CHECK(bks_endpoint_new(&a, RUN("a@b"), FLAGS, 7).refusal == 0);
+    CHECK(bks_endpoint_new(&b, RUN("c@d"), FLAGS, 8).refusal == 0);
     CHECK(bks_endpoint_start(&a, NULL, 0, to_b, sizeof to_b).refusal == 6);
     CHECK(bks_endpoint_close(&a, 0) == 2);
 
     bks_started s = bks_endpoint_start(&a, RUN("c@d"), to_b, sizeof to_b);
     CHECK(s.refusal == 0 && s.slot == 0);
-    CHECK(s.written == 20 && memcmp(to_b, "\x00\x12N\x00\x00\x00\x00\x01\x00\x01\x04\x00\x00\x00\x07\x00\x03" "a@b", 20) == 0);
+    CHECK(s.written == 20 && memcmp(to_b, "\x00\x12N\x00\x00\x00\x04\x03\x00\x01\x04\x00\x00\x00\x07\x00\x03" "a@b", 20) == 0);
     CHECK(bks_endpoint_start(&a, RUN("c@d"), to_a, sizeof to_a).refusal == 12);
 
     CHECK(bks_endpoint_arrive(&b).slot == 0);
     bks_arrived r = bks_endpoint_arrive(&b);
     CHECK(r.refusal == 0 && r.slot == 1);
-    bks_answered w = bks_endpoint_message(&b, r.slot, to_b, s.written, 1234, NULL, 0, RUN("ck"), to_a, sizeof to_a);
+    bks_answered w = flagless(bks_endpoint_message(&b, r.slot, to_b, s.written, 1234, NULL, 0, RUN("ck"), to_a, sizeof to_a));
     CHECK(w.refusal == 0 && w.stage == BKS_AWAITS_REPLY && w.freed == BKS_SLOTS && w.ended == 0);
     CHECK(w.written == 29 && memcmp(to_a, "\x00\x03sok", 5) == 0);
 
-    bks_answered x = bks_endpoint_message(&a, s.slot, to_a, 5, 99, NULL, 0, RUN("ck"), to_b, sizeof to_b);
+    bks_answered x = flagless(bks_endpoint_message(&a, s.slot, to_a, 5, 99, NULL, 0, RUN("ck"), to_b, sizeof to_b));
     CHECK(x.refusal == 0 && x.stage == BKS_AWAITS_CHALLENGE && x.written == 0);
-    x = bks_endpoint_message(&a, s.slot, to_a + 5, w.written - 5, 99, RUN("ck"), RUN("other"), to_b, sizeof to_b);
+    x = flagless(bks_endpoint_message(&a, s.slot, to_a + 5, w.written - 5, 99, RUN("ck"), RUN("other"), to_b, sizeof to_b));
     CHECK(x.refusal == 0 && x.stage == BKS_AWAITS_ACK && x.written == 23);
-    w = bks_endpoint_message(&b, r.slot, to_b, x.written, 0, NULL, 0, RUN("ck"), to_a, sizeof to_a);
+    w = flagless(bks_endpoint_message(&b, r.slot, to_b, x.written, 0, NULL, 0, RUN("ck"), to_a, sizeof to_a));
     CHECK(w.refusal == 0 && w.stage == BKS_CONNECTED && w.written == 19);
-    x = bks_endpoint_message(&a, s.slot, to_a, w.written, 0, NULL, 0, RUN("ck"), to_b, sizeof to_b);
+    x = flagless(bks_endpoint_message(&a, s.slot, to_a, w.written, 0, NULL, 0, RUN("ck"), to_b, sizeof to_b));
     CHECK(x.refusal == 0 && x.stage == BKS_CONNECTED && x.written == 0);
 
     bks_slot q = bks_endpoint_slot(&b, r.slot);
     CHECK(q.stage == BKS_CONNECTED && q.creation == 7 && q.challenge == 1234 && q.flags == FLAGS);
     CHECK(q.name_len == 3 && memcmp(q.name, "a@b", 3) == 0 && q.name[3] == 0);
     CHECK(bks_endpoint_slot(&b, BKS_SLOTS).stage == BKS_FREE);
-    x = bks_endpoint_message(&a, s.slot, to_a, 19, 0, NULL, 0, RUN("ck"), to_b, sizeof to_b);
+    x = flagless(bks_endpoint_message(&a, s.slot, to_a, 19, 0, NULL, 0, RUN("ck"), to_b, sizeof to_b));
     CHECK(x.refusal == 10 && x.written == 0 && x.stage == 0 && x.freed == BKS_SLOTS && x.ended == 0);
     CHECK(bks_endpoint_close(&b, r.slot) == 0 && bks_endpoint_close(&b, r.slot) == 2);
 
@@ -225,18 +233,20 @@ static void handshake(void) {
 static void ended(void) {
     static bks_endpoint e, fresh;
     uint8_t out[BKS_ENDPOINT_OUTPUT];
-    CHECK(bks_endpoint_new(&e, RUN("a@b"), FLAGS, 7) == 0 && bks_endpoint_new(&fresh, RUN("a@b"), FLAGS, 7) == 0);
+    CHECK(bks_endpoint_new(&e, RUN("a@b"), FLAGS, 7).refusal == 0 && bks_endpoint_new(&fresh, RUN("a@b"), FLAGS, 7).refusal == 0);
     CHECK(memcmp(&e, &fresh, sizeof e) == 0);
     CHECK(bks_endpoint_arrive(&e).slot == 0 && memcmp(&e, &fresh, sizeof e) != 0);
-    bks_answered x = bks_endpoint_message(&e, 0, RUN("\x00\x01x"), 1, NULL, 0, RUN("ck"), out, sizeof out);
+    bks_answered x = flagless(bks_endpoint_message(&e, 0, RUN("\x00\x01x"), 1, NULL, 0, RUN("ck"), out, sizeof out));
     CHECK(x.refusal == BKS_REFUSED_UNKNOWN_TAG && x.ended == 1 && x.freed == BKS_SLOTS && memcmp(&e, &fresh, sizeof e) == 0);
-    x = bks_endpoint_message(&e, 0, RUN("\x00\x01x"), 1, NULL, 0, RUN("ck"), out, sizeof out);
+    x = flagless(bks_endpoint_message(&e, 0, RUN("\x00\x01x"), 1, NULL, 0, RUN("ck"), out, sizeof out));
     CHECK(x.refusal == BKS_REFUSED_SLOT_NOT_TAKEN && x.ended == 0);
     CHECK(bks_endpoint_arrive(&e).slot == 0);
-    x = bks_endpoint_message(&e, 0, RUN("\x00\x12N\x00\x00\x00\x00\x01\x00\x01\x04\x00\x00\x00\x07\x00\x03" "a@b"), 1, NULL, 0, RUN("ck"), out, sizeof out);
+    x = flagless(bks_endpoint_message(&e, 0, RUN("\x00\x12N\x00\x00\x00\x04\x03\x00\x01\x04\x00\x00\x00\x07\x00\x03" "a@b"), 1, NULL, 0, RUN("ck"), out, sizeof out));
     CHECK(x.refusal == 0 && x.stage == BKS_FREE && x.ended == 1 && x.written == 14 && memcmp(out, "\x00\x0csnot_allowed", 14) == 0);
     CHECK(memcmp(&e, &fresh, sizeof e) == 0);
 }
+
+#include "flags.h"
 
 int main(void) {
     uint8_t digest[16];
@@ -254,6 +264,7 @@ int main(void) {
     names();
     handshake();
     ended();
+    flags();
     puts(failed ? "header: failed" : "header: ok");
     return failed;
 }

@@ -66,7 +66,7 @@ static bks_names_reply listed;
 static bks_slot seen;
 static bks_own own;
 static bool told;
-static const uint64_t FLAGS = 0x1000104;
+static bks_made made;
 static uint8_t cookie[255];
 
 static void nothing(void) {}
@@ -84,7 +84,7 @@ static void names_request(void) { written = bks_names_request(out, sizeof out); 
 static void read_alive2(void) { registered = bks_read_alive2(reply, reply_len); }
 static void read_port2(void) { found = bks_read_port2(reply, reply_len); }
 static void read_names(void) { listed = bks_read_names(reply, reply_len); }
-static void endpoint_new(void) { refusal = bks_endpoint_new(&a, name, sizeof name, FLAGS, 7); }
+static void endpoint_new(void) { made = bks_endpoint_new(&a, name, sizeof name, BKS_REQUIRED_FLAGS, 7); }
 static void start(void) { started = bks_endpoint_start(&a, (const uint8_t *)"c@d", 3, to_b, sizeof to_b); }
 static void arrive(void) { arrived = bks_endpoint_arrive(&b); }
 static void message_a(void) {
@@ -214,8 +214,8 @@ static void handshake(void) {
     memset(name, 'a', sizeof name);
     name[100] = '@';
     measure("bks_endpoint_new", endpoint_new);
-    expect(refusal == 0, "made");
-    bks_endpoint_new(&b, (const uint8_t *)"c@d", 3, FLAGS, 8);
+    expect(made.refusal == 0, "made");
+    bks_endpoint_new(&b, (const uint8_t *)"c@d", 3, BKS_REQUIRED_FLAGS, 8);
     measure("bks_endpoint_start", start);
     expect(started.refusal == 0 && started.slot == 0, "started");
     measure("bks_endpoint_arrive", arrive);
@@ -244,7 +244,7 @@ static void handshake(void) {
     expect(own.name_len == 255, "own");
     /* the same peer again: alive, and true */
     static bks_endpoint again;
-    bks_endpoint_new(&again, name, sizeof name, FLAGS, 9);
+    bks_endpoint_new(&again, name, sizeof name, BKS_REQUIRED_FLAGS, 9);
     frame_len = bks_endpoint_start(&again, (const uint8_t *)"c@d", 3, to_b, sizeof to_b).written;
     slot = bks_endpoint_arrive(&b).slot;
     measure("bks_endpoint_message: name of a connected peer", message_b);
@@ -259,11 +259,24 @@ static void handshake(void) {
     expect(refusal == 0, "closed");
 }
 
+/* No flags at all, in a name message and in a challenge. */
+static void bad_flags(void) {
+    memcpy(to_b, "\x00\x12N\0\0\0\0\0\0\0\0\0\0\0\1\0\3e@f", 20), frame_len = 20, slot = bks_endpoint_arrive(&b).slot;
+    measure("bks_endpoint_message: name, refused with 9", message_b);
+    expect(answered.refusal == BKS_REFUSED_BAD_FLAGS && answered.missing == 5 && answered.ended, "flags of a name");
+    slot = bks_endpoint_start(&a, (const uint8_t *)"e@f", 3, to_b, sizeof to_b).slot;
+    memcpy(to_a, "\x00\x03sok", 5), frame_len = 5, message_a();
+    memcpy(to_a, "\x00\x16N\0\0\0\0\0\0\0\0\0\0\0\1\0\0\0\1\0\3e@f", 24), frame_len = 24;
+    measure("bks_endpoint_message: challenge, refused with 9", message_a);
+    expect(answered.refusal == BKS_REFUSED_BAD_FLAGS && answered.missing == 5 && answered.ended, "flags of a challenge");
+}
+
 static void all(void) {
     measure("(a call of nothing)", nothing);
     mapper();
     client();
     handshake();
+    bad_flags();
     measure("bks_md5, 4096 bytes", md5);
     measure("bks_node_name_ok", node_name_ok);
     measure("bks_full_name_ok", full_name_ok);

@@ -2,7 +2,7 @@
 //! is asked for, which would write past what it was lent if it did not.
 
 use birkenschuh::client::{self, Node};
-use birkenschuh::{Endpoint, Registry, ENDPOINT_SIZE, REGISTRY_SIZE};
+use birkenschuh::{Endpoint, Registry, ENDPOINT_SIZE, REGISTRY_SIZE, REQUIRED_FLAGS};
 
 fn main() {
     match birkenschuh::check() {
@@ -11,7 +11,7 @@ fn main() {
     }
     match std::env::args().nth(1).as_deref() {
         Some("registry") => println!("{:?}", Registry::new(4369, 1)),
-        Some("endpoint") => println!("{:?}", Endpoint::new(b"a@b", 0x100_0104, 1)),
+        Some("endpoint") => println!("{:?}", Endpoint::new(b"a@b", REQUIRED_FLAGS, 1)),
         Some("stored registry") => println!("{:?}", Registry::from_bytes(&[0; REGISTRY_SIZE])),
         Some("stored endpoint") => println!("{:?}", Endpoint::from_bytes(&[0; ENDPOINT_SIZE])),
         Some("write names") => println!("{:?}", client::names_request(&mut [0; 3])),

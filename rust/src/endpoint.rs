@@ -19,12 +19,11 @@ pub const SLOTS: usize = 32;
 /// Two endpoints joined in memory:
 ///
 /// ```
-/// use birkenschuh::{Cookies, Endpoint, Stage, ENDPOINT_OUTPUT};
+/// use birkenschuh::{Cookies, Endpoint, Stage, ENDPOINT_OUTPUT, REQUIRED_FLAGS};
 ///
-/// const FLAGS: u64 = 0x100_0104;
 /// let cookies = Cookies { own: b"", standard: b"monster" };
-/// let mut a = Endpoint::new(b"a@host", FLAGS, 7)?;
-/// let mut b = Endpoint::new(b"b@host", FLAGS, 8)?;
+/// let mut a = Endpoint::new(b"a@host", REQUIRED_FLAGS, 7)?;
+/// let mut b = Endpoint::new(b"b@host", REQUIRED_FLAGS, 8)?;
 /// let (mut from_a, mut from_b) = ([0; ENDPOINT_OUTPUT], [0; ENDPOINT_OUTPUT]);
 ///
 /// // a starts: its name message.
@@ -67,7 +66,7 @@ impl Endpoint {
         let mut state = Box::<ffi::bks_endpoint>::new_uninit();
         // SAFETY: the first pointer is to memory of an endpoint's size, and `name` is readable for
         // its length.
-        let refusal = unsafe {
+        let made = unsafe {
             ffi::bks_endpoint_new(
                 state.as_mut_ptr(),
                 name.as_ptr(),
@@ -76,7 +75,7 @@ impl Endpoint {
                 creation,
             )
         };
-        Refusal::check(refusal)?;
+        Refusal::check_flags(made.refusal, made.missing, made.lowest)?;
         // SAFETY: a call that is not refused has written the state.
         let state = unsafe { state.assume_init() };
         Ok(Endpoint { state })
@@ -157,7 +156,8 @@ impl Endpoint {
                 out.len(),
             )
         };
-        Refusal::check(answer.refusal).map_err(|refusal| Refused {
+        let told = Refusal::check_flags(answer.refusal, answer.missing, answer.lowest);
+        told.map_err(|refusal| Refused {
             refusal,
             slot_freed: answer.ended != 0,
         })?;
@@ -255,9 +255,9 @@ impl fmt::Debug for Cookies<'_> {
 /// What [`Endpoint::start`] tells.
 ///
 /// ```
-/// use birkenschuh::{Endpoint, Started, ENDPOINT_OUTPUT};
+/// use birkenschuh::{Endpoint, Started, ENDPOINT_OUTPUT, REQUIRED_FLAGS};
 ///
-/// let mut endpoint = Endpoint::new(b"a@b", 0x100_0104, 7)?;
+/// let mut endpoint = Endpoint::new(b"a@b", REQUIRED_FLAGS, 7)?;
 /// let started = endpoint.start(b"c@d", &mut [0; ENDPOINT_OUTPUT])?;
 /// assert_eq!(started, Started { slot: 0, written: 20 });
 /// # Ok::<(), birkenschuh::Refusal>(())
@@ -273,10 +273,10 @@ pub struct Started {
 /// What [`Endpoint::message`] tells.
 ///
 /// ```
-/// use birkenschuh::{Answered, Cookies, Endpoint, Stage, ENDPOINT_OUTPUT};
+/// use birkenschuh::{Answered, Cookies, Endpoint, Stage, ENDPOINT_OUTPUT, REQUIRED_FLAGS};
 ///
 /// let mut out = [0; ENDPOINT_OUTPUT];
-/// let mut endpoint = Endpoint::new(b"a@b", 0x100_0104, 7)?;
+/// let mut endpoint = Endpoint::new(b"a@b", REQUIRED_FLAGS, 7)?;
 /// let slot = endpoint.start(b"c@d", &mut out)?.slot;
 /// let cookies = Cookies { own: b"", standard: b"monster" };
 /// let answered = endpoint.message(slot, b"\x00\x03sok", 0, cookies, &mut out)?;

@@ -17,7 +17,7 @@ pub use endpoint::*;
 pub use registry::*;
 
 /// The version of the boundary that these declarations are of.
-pub const BKS_ABI: u32 = 1;
+pub const BKS_ABI: u32 = 2;
 
 extern "C" {
     /// The version of the boundary that the library is of.

@@ -28,6 +28,7 @@
 pub mod client;
 mod endpoint;
 pub mod ffi;
+mod flags;
 mod refusal;
 mod registry;
 mod reply;
@@ -38,6 +39,7 @@ mod version;
 use std::cmp::Ordering;
 
 pub use endpoint::{Answered, Cookies, Endpoint, Started, ENDPOINT_OUTPUT, ENDPOINT_SIZE, SLOTS};
+pub use flags::{FlagFlaw, REQUIRED_FLAGS};
 pub use refusal::{Refusal, Refused};
 pub use registry::{Registration, Registry, PLACES, REGISTRY_OUTPUT, REGISTRY_SIZE};
 pub use reply::{Alive2Result, Asked, Reply};

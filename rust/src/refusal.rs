@@ -3,7 +3,9 @@
 use std::error::Error;
 use std::fmt;
 
-/// Why a call was refused. The discriminants are the numbers of the specification (01, and 20 of 02).
+use crate::FlagFlaw;
+
+/// Why a call was refused. Each has its number in the specification (01, and 20 of 02).
 ///
 /// A refused call has written no output, and nothing else has changed; but a message that is refused
 /// may have freed the slot that it came in on, which [`Refused`] tells.
@@ -17,50 +19,49 @@ use std::fmt;
 /// assert_eq!(refusal.to_string(), "the first creation is 0");
 /// ```
 #[derive(Clone, Copy, Debug, PartialEq, Eq, PartialOrd, Ord, Hash)]
-#[repr(u32)]
 pub enum Refusal {
     /// The lent output is shorter than the call needs.
-    OutputTooShort = 1,
+    OutputTooShort,
     /// The slot's number is not below 32, or the slot is free.
-    SlotNotTaken = 2,
+    SlotNotTaken,
     /// The lent bytes are not exactly one frame.
-    NotAFrame = 3,
+    NotAFrame,
     /// The first byte of a body is not served, or not at this stage; or a reply is another's.
-    UnknownTag = 4,
+    UnknownTag,
     /// The length disagrees with the fields, or the extra field has more than 128 bytes; or a NAMES
     /// reply has no reading.
-    BadLength = 5,
+    BadLength,
     /// The name breaks its rule, or is not the expected one.
-    BadName = 6,
+    BadName,
     /// The versions break their rule: lowest at most highest, lowest at most 6, highest at least 5.
-    BadVersions = 7,
+    BadVersions,
     /// A DUMP, KILL or STOP request.
-    NotServed = 8,
-    /// A required flag (bits 2, 8 and 24) is clear, or bit 33 is set.
-    BadFlags = 9,
+    NotServed,
+    /// A required flag (bits 2, 8, 24, 25 and 34) is clear, or bit 33 is set: which, is told.
+    BadFlags(FlagFlaw),
     /// A message on a slot that is connected.
-    AlreadyConnected = 10,
+    AlreadyConnected,
     /// The cookie is empty or has more than 255 bytes.
-    BadCookie = 11,
+    BadCookie,
     /// A start towards this node itself, or towards a peer that has a slot.
-    PeerTaken = 12,
+    PeerTaken,
     /// All 32 slots are taken.
-    NoFreeSlot = 13,
+    NoFreeSlot,
     /// The status word is not one of this stage.
-    UnknownStatus = 14,
+    UnknownStatus,
     /// The peer's digest is wrong: it does not know the cookie.
-    WrongDigest = 15,
+    WrongDigest,
     /// The peer answered `nok` or `not_allowed`.
-    Declined = 16,
+    Declined,
     /// A registry's first creation must not be 0.
-    ZeroCreation = 17,
+    ZeroCreation,
     /// A NAMES reply that can be read in more than one way: a name may hold what looks like lines.
-    Ambiguous = 20,
+    Ambiguous,
 }
 
 impl Refusal {
-    /// All refusals, in the order of their numbers.
-    pub const ALL: [Refusal; 18] = [
+    /// Those that carry nothing but their number, in the order of their numbers.
+    const PLAIN: [Refusal; 17] = [
         Refusal::OutputTooShort,
         Refusal::SlotNotTaken,
         Refusal::NotAFrame,
@@ -69,7 +70,6 @@ impl Refusal {
         Refusal::BadName,
         Refusal::BadVersions,
         Refusal::NotServed,
-        Refusal::BadFlags,
         Refusal::AlreadyConnected,
         Refusal::BadCookie,
         Refusal::PeerTaken,
@@ -81,27 +81,62 @@ impl Refusal {
         Refusal::Ambiguous,
     ];
 
-    /// The number of this refusal, 1 to 17 or 20.
-    pub fn number(self) -> u32 {
-        self as u32
+    /// All refusals that are told: those that carry nothing else, in the order of their numbers, and
+    /// 9 with each [`FlagFlaw`].
+    pub fn all() -> impl Iterator<Item = Refusal> {
+        let flaws = FlagFlaw::ALL.map(Refusal::BadFlags);
+        Refusal::PLAIN.into_iter().chain(flaws)
     }
 
-    /// What the library's number means: 0 is no refusal.
+    /// The number of this refusal, 1 to 17 or 20.
+    pub fn number(self) -> u32 {
+        match self {
+            Refusal::OutputTooShort => 1,
+            Refusal::SlotNotTaken => 2,
+            Refusal::NotAFrame => 3,
+            Refusal::UnknownTag => 4,
+            Refusal::BadLength => 5,
+            Refusal::BadName => 6,
+            Refusal::BadVersions => 7,
+            Refusal::NotServed => 8,
+            Refusal::BadFlags(_) => 9,
+            Refusal::AlreadyConnected => 10,
+            Refusal::BadCookie => 11,
+            Refusal::PeerTaken => 12,
+            Refusal::NoFreeSlot => 13,
+            Refusal::UnknownStatus => 14,
+            Refusal::WrongDigest => 15,
+            Refusal::Declined => 16,
+            Refusal::ZeroCreation => 17,
+            Refusal::Ambiguous => 20,
+        }
+    }
+
+    /// What the library's number means, in a call that does not test flags: 0 is no refusal.
     pub(crate) fn check(number: u32) -> Result<(), Refusal> {
         if number == 0 {
             return Ok(());
         }
-        let mut all = Refusal::ALL.into_iter();
-        match all.find(|refusal| refusal.number() == number) {
+        let mut plain = Refusal::PLAIN.into_iter();
+        match plain.find(|refusal| refusal.number() == number) {
             Some(refusal) => Err(refusal),
             None => unreachable!("the library gave the refusal {number}"),
+        }
+    }
+
+    /// The same in a call that tests flags, with the two numbers that it tells beside.
+    pub(crate) fn check_flags(number: u32, missing: u32, lowest: u32) -> Result<(), Refusal> {
+        match number {
+            9 => Err(Refusal::BadFlags(FlagFlaw::of(missing, lowest))),
+            _ => Refusal::check(number),
         }
     }
 }
 
 impl fmt::Display for Refusal {
     fn fmt(&self, f: &mut fmt::Formatter<'_>) -> fmt::Result {
-        f.write_str(match self {
+        let text = match self {
+            Refusal::BadFlags(flaw) => return flaw.fmt(f),
             Refusal::OutputTooShort => "the output is shorter than the call needs",
             Refusal::SlotNotTaken => "the slot is free, or there is no slot of this number",
             Refusal::NotAFrame => "the bytes are not exactly one frame",
@@ -110,7 +145,6 @@ impl fmt::Display for Refusal {
             Refusal::BadName => "the name breaks its rule, or is not the expected one",
             Refusal::BadVersions => "the versions break their rule",
             Refusal::NotServed => "DUMP, KILL and STOP are not served",
-            Refusal::BadFlags => "a required flag is clear, or a dynamic name is asked for",
             Refusal::AlreadyConnected => "the slot is already connected",
             Refusal::BadCookie => "the cookie is empty or longer than 255 bytes",
             Refusal::PeerTaken => "the peer is this node itself, or it already has a slot",
@@ -120,7 +154,8 @@ impl fmt::Display for Refusal {
             Refusal::Declined => "the peer declined",
             Refusal::ZeroCreation => "the first creation is 0",
             Refusal::Ambiguous => "the reply can be read in more than one way",
-        })
+        };
+        f.write_str(text)
     }
 }
 
@@ -129,9 +164,9 @@ impl Error for Refusal {}
 /// Why a message was refused, and what became of its slot.
 ///
 /// ```
-/// use birkenschuh::{Cookies, Endpoint, Refusal, ENDPOINT_OUTPUT};
+/// use birkenschuh::{Cookies, Endpoint, Refusal, ENDPOINT_OUTPUT, REQUIRED_FLAGS};
 ///
-/// let mut endpoint = Endpoint::new(b"a@b", 0x100_0104, 7)?;
+/// let mut endpoint = Endpoint::new(b"a@b", REQUIRED_FLAGS, 7)?;
 /// let slot = endpoint.arrive()?;
 /// let cookies = Cookies { own: b"", standard: b"monster" };
 /// let mut out = [0; ENDPOINT_OUTPUT];
@@ -171,26 +206,30 @@ mod tests {
     use super::*;
 
     #[test]
-    fn numbers_are_those_of_the_papers_in_order() {
-        let numbers: Vec<u32> = Refusal::ALL
-            .iter()
-            .map(|refusal| refusal.number())
-            .collect();
+    fn numbers_are_those_of_the_papers() {
+        let mut numbers: Vec<u32> = Refusal::all().map(Refusal::number).collect();
+        numbers.sort();
+        numbers.dedup();
         assert_eq!(numbers, (1..=17).chain([20]).collect::<Vec<u32>>());
-        assert_eq!(Refusal::check(0), Ok(()));
-        for refusal in Refusal::ALL {
-            assert_eq!(Refusal::check(refusal.number()), Err(refusal));
+        assert_eq!(Refusal::check_flags(0, 0, 0), Ok(()));
+        for refusal in Refusal::all() {
+            let (missing, lowest) = match refusal {
+                Refusal::BadFlags(flaw) => flaw.values(),
+                _ => (0, 0),
+            };
+            let told = Refusal::check_flags(refusal.number(), missing, lowest);
+            assert_eq!(told, Err(refusal));
         }
     }
 
     #[test]
     fn messages_are_single_lines_and_all_different() {
-        let mut messages: Vec<String> = Refusal::ALL.iter().map(Refusal::to_string).collect();
+        let mut messages: Vec<String> = Refusal::all().map(|it| it.to_string()).collect();
         assert!(messages
             .iter()
             .all(|text| !text.is_empty() && !text.contains('\n')));
         messages.sort();
         messages.dedup();
-        assert_eq!(messages.len(), Refusal::ALL.len());
+        assert_eq!(messages.len(), Refusal::all().count());
     }
 }

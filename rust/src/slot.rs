@@ -7,9 +7,9 @@ use crate::text::Text;
 /// How far a slot's handshake has come.
 ///
 /// ```
-/// use birkenschuh::{Endpoint, Stage};
+/// use birkenschuh::{Endpoint, Stage, REQUIRED_FLAGS};
 ///
-/// let mut endpoint = Endpoint::new(b"a@b", 0x100_0104, 7)?;
+/// let mut endpoint = Endpoint::new(b"a@b", REQUIRED_FLAGS, 7)?;
 /// assert_eq!(endpoint.slot(0).stage, Stage::Free);
 /// let slot = endpoint.arrive()?;
 /// assert_eq!(endpoint.slot(slot).stage, Stage::AwaitsName);
@@ -61,9 +61,9 @@ impl Stage {
 /// What is recorded of a peer. What has not been read or sent yet is zero or empty.
 ///
 /// ```
-/// use birkenschuh::{Endpoint, Slot, Stage, ENDPOINT_OUTPUT};
+/// use birkenschuh::{Endpoint, Slot, Stage, ENDPOINT_OUTPUT, REQUIRED_FLAGS};
 ///
-/// let mut endpoint = Endpoint::new(b"a@b", 0x100_0104, 7)?;
+/// let mut endpoint = Endpoint::new(b"a@b", REQUIRED_FLAGS, 7)?;
 /// endpoint.start(b"c@d", &mut [0; ENDPOINT_OUTPUT])?;
 /// let slot = endpoint.slot(0);
 /// assert_eq!((slot.stage, slot.name.as_slice()), (Stage::AwaitsStatus, &b"c@d"[..]));
@@ -99,10 +99,10 @@ impl fmt::Debug for Slot {
 /// What an endpoint was made with.
 ///
 /// ```
-/// use birkenschuh::Endpoint;
+/// use birkenschuh::{Endpoint, REQUIRED_FLAGS};
 ///
-/// let own = Endpoint::new(b"a@b", 0x100_0104, 7)?.own();
-/// assert_eq!(format!("{own:?}"), r#"Own { name: "a@b", flags: 0x1000104, creation: 7 }"#);
+/// let own = Endpoint::new(b"a@b", REQUIRED_FLAGS, 7)?.own();
+/// assert_eq!(format!("{own:?}"), r#"Own { name: "a@b", flags: 0x403000104, creation: 7 }"#);
 /// # Ok::<(), birkenschuh::Refusal>(())
 /// ```
 #[derive(Clone, PartialEq, Eq)]

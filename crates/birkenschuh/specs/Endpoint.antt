@@ -12,11 +12,15 @@ use Rattle.handshake_rules.specs.State.{Told, Made}
 use Rattle.handshake_rules.specs.declared.endpoint.Slot.{Slot}
 use Rattle.handshake_rules.specs.declared.endpoint.Freed.{Freed}
 use Rattle.handshake_rules.specs.declared.endpoint.Answer.{Answer}
+use Rattle.handshake_rules.specs.declared.endpoint.Answer.the-variants.{Refused}
+use Rattle.handshake_rules.specs.declared.refusal.Refusal.{Refusal}
+use Rattle.handshake_rules.specs.declared.refusal.Why.{Why}
 use Rattle.handshake_rules.specs.Answers as rules
 use Rattle.handshake_rules.specs.Endpoint.{stageNumber}
 use Rattle.handshake_rules.specs.Plans.{Done}
 use Rattle.handshake_state.specs.Bytes.{endpointOf, ifMade}
 use Rattle.birkenschuh.specs.declared.numbers.Numbers.{Numbers}
+use Rattle.birkenschuh.specs.declared.endpoint.Made as d
 use Rattle.birkenschuh.specs.declared.endpoint.Started as s
 use Rattle.birkenschuh.specs.declared.endpoint.Arrived as a
 use Rattle.birkenschuh.specs.declared.endpoint.Answered as m
@@ -35,7 +39,7 @@ slotNumber s = cond (ltb s rules.noSlot) s rules.noSlot
 abbrev pub crossing : rules.Numbers → Bool → Numbers
 crossing n ended =
     record {
-      refusal = n .refusal;
+      why = n .why;
       slot = slotNumber (n .slot);
       stage = n .stage;
       freed = slotNumber (n .freed);
@@ -47,17 +51,24 @@ unfoldable pub toldOf : Answer → Numbers
 toldOf x = crossing (rules.numbersOf x) (rules.endsSlot x)
 
 -- of these, what each call tells
+abbrev pub madeIn : Why → d.Made
+madeIn y = record { refusal = y .number; missing = y .missing; lowest = y .lowest }
+
 abbrev pub startedIn : Numbers → s.Started
-startedIn n = record { refusal = n .refusal; slot = n .slot; written = n .written }
+startedIn n = record { refusal = n .why .number; slot = n .slot; written = n .written }
 
 abbrev pub arrivedIn : Numbers → a.Arrived
-arrivedIn n = record { refusal = n .refusal; slot = n .slot }
+arrivedIn n = record { refusal = n .why .number; slot = n .slot }
 
 abbrev pub refusalIn : Numbers → ℕ
-refusalIn n = n .refusal
+refusalIn n = n .why .number
 
 abbrev pub answeredIn : Numbers → m.Answered
-answeredIn n = record { refusal = n .refusal; stage = n .stage; freed = n .freed; ended = n .ended; written = n .written }
+answeredIn n = record { refusal = n .why .number; stage = n .stage; freed = n .freed; ended = n .ended; written = n .written; missing = n .why .missing; lowest = n .why .lowest }
+
+-- a refusal
+abbrev pub refuses : Refusal → Numbers
+refuses r = crossing (rules.numbersOf (Refused r)) (rules.endsSlot (Refused r))
 
 -- an answer to a message, by the number of its stage
 abbrev pub answers : ℕ → Freed → ℕ → Numbers
@@ -75,8 +86,8 @@ pub record Comes {N : Type 0} (of : Numbers → N) (d : Done) (r : N) (after out
   pub output : left ≡ written (d .bytes) out
 
 -- where making refuses, the bytes hold what they held before
-pub record Makes (m : Made) (r : ℕ) (before after : List ℕ) : Type 0 where
-  pub told : r ≡ rules.makingNumber (m .making)
+pub record Makes (m : Made) (r : d.Made) (before after : List ℕ) : Type 0 where
+  pub told : r ≡ madeIn (rules.makingWhy (m .making))
   pub endpoint : endpointOf after ≡ ifMade (m .making) (m .endpoint) (endpointOf before)
 
 -- ---- what a host may see

@@ -6,11 +6,20 @@ ghost use Rattle.handshake_rules.specs.Cookie.{cookies};
 ghost use Rattle.handshake_rules.specs.Calls.{newOf, startOf, arriveOf, closeOf, messageOf};
 ghost use Rattle.handshake_state.specs.Bytes.{endpointOf};
 ghost use Rattle.birkenschuh.specs.Endpoint.{Makes, Comes, Tells, startedIn, arrivedIn, refusalIn, answeredIn, seenOf, ownOf};
-use crate::numbers::making_number;
+use crate::numbers::making_why;
 use crate::numbers::numbers_of;
 use handshake::SIZE;
 use handshake_rules::endpoint::Slot;
 use names::Name;
+
+// Beside 9 how many required flags are missing, and the lowest of them by its bit, or 0 and 33; beside
+// all else both are 0. So in `Answered`.
+#[repr(C)]
+pub struct Made {
+    pub refusal: u32,
+    pub missing: u32,
+    pub lowest: u32,
+}
 
 #[repr(C)]
 pub struct Started {
@@ -32,6 +41,8 @@ pub struct Answered {
     pub freed: u32,
     pub ended: u32,
     pub written: usize,
+    pub missing: u32,
+    pub lowest: u32,
 }
 
 // A slot's record; the name's bytes are zero behind its length.
@@ -60,11 +71,16 @@ pub extern "C" fn bks_endpoint_new(
     name: &[u8],
     flags: u64,
     creation: u32,
-) -> u32
+) -> Made
     ensures { λ r. ⌜ Makes (newOf (now (name .entry)) flags creation) r (now (e .entry)) (now (e .exit)) ⌝ }
 {
     let making = handshake::calls::make(e, name, flags, creation);
-    making_number(making)
+    let why = making_why(making);
+    Made {
+        refusal: why.number,
+        missing: why.missing,
+        lowest: why.lowest,
+    }
 }
 
 // Starts towards a full name.
@@ -75,7 +91,7 @@ pub extern "C" fn bks_endpoint_start(e: &mut [u8; SIZE], name: &[u8], out: &mut 
     let answer = handshake::calls::start(e, name, out);
     let n = numbers_of(answer);
     Started {
-        refusal: n.refusal,
+        refusal: n.why.number,
         slot: n.slot,
         written: n.written,
     }
@@ -89,7 +105,7 @@ pub extern "C" fn bks_endpoint_arrive(e: &mut [u8; SIZE]) -> Arrived
     let answer = handshake::calls::arrive(e);
     let n = numbers_of(answer);
     Arrived {
-        refusal: n.refusal,
+        refusal: n.why.number,
         slot: n.slot,
     }
 }
@@ -101,7 +117,7 @@ pub extern "C" fn bks_endpoint_close(e: &mut [u8; SIZE], slot: u32) -> u32
 {
     let answer = handshake::calls::close(e, slot as usize);
     let n = numbers_of(answer);
-    n.refusal
+    n.why.number
 }
 
 // One frame on a slot.
@@ -120,11 +136,13 @@ pub extern "C" fn bks_endpoint_message<'a>(
     let answer = handshake::calls::message(e, slot as usize, frame, challenge, own, standard, out);
     let n = numbers_of(answer);
     Answered {
-        refusal: n.refusal,
+        refusal: n.why.number,
         stage: n.stage,
         freed: n.freed,
         ended: n.ended,
         written: n.written,
+        missing: n.why.missing,
+        lowest: n.why.lowest,
     }
 }
 

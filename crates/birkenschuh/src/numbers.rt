@@ -1,17 +1,19 @@
 // 01's numbers for the endpoint's answers, as they cross to the host.
 ghost use mathlib.Core.Path.{_≡_};
-ghost use Rattle.handshake_rules.specs.Answers.{makingNumber, freedNumber, tells};
+ghost use Rattle.handshake_rules.specs.Answers as rules;
 ghost use Rattle.birkenschuh.specs.Endpoint as endpoint;
 use handshake_rules::endpoint::Answer;
 use handshake_rules::endpoint::Freed;
 use handshake_rules::endpoint::Making;
+use handshake_rules::refusal::Refusal;
+use handshake_rules::refusal::Why;
 
 // There are 32 slots, and 32 is none of them.
 const NO_SLOT: usize = 32;
 
 // What an answer tells, and `ended`: 1 if a message that is answered so leaves the slot named free.
 pub struct Numbers {
-    pub refusal: u32,
+    pub why: Why,
     pub slot: u32,
     pub stage: u32,
     pub freed: u32,
@@ -38,7 +40,7 @@ fn slot_number(slot: usize) -> u32
 }
 
 fn freed_number(f: Freed) -> usize
-    ensures { λ r. ⌜ r ≡ freedNumber f ⌝ }
+    ensures { λ r. ⌜ r ≡ rules.freedNumber f ⌝ }
 {
     match f {
         Freed::Nothing => NO_SLOT,
@@ -46,11 +48,23 @@ fn freed_number(f: Freed) -> usize
     }
 }
 
-fn tell(refusal: u32, slot: usize, stage: u32, freed: usize, ended: bool, written: usize) -> Numbers
-    ensures { λ r. ⌜ r ≡ endpoint.crossing (tells refusal slot stage freed written) ended ⌝ }
+// Of no refusal.
+fn unrefused() -> Why
+    ensures { λ r. ⌜ r ≡ rules.unrefused ⌝ }
+{
+    Why {
+        number: 0,
+        missing: 0,
+        lowest: 0,
+    }
+}
+
+// An answer that is no refusal.
+fn tell(slot: usize, stage: u32, freed: usize, ended: bool, written: usize) -> Numbers
+    ensures { λ r. ⌜ r ≡ endpoint.crossing (rules.tells rules.unrefused slot stage freed written) ended ⌝ }
 {
     Numbers {
-        refusal,
+        why: unrefused(),
         slot: slot_number(slot),
         stage,
         freed: slot_number(freed),
@@ -59,20 +73,33 @@ fn tell(refusal: u32, slot: usize, stage: u32, freed: usize, ended: bool, writte
     }
 }
 
+fn refuse(refusal: Refusal) -> Numbers
+    ensures { λ r. ⌜ r ≡ endpoint.refuses refusal ⌝ }
+{
+    Numbers {
+        why: refusal.why(),
+        slot: 0,
+        stage: 0,
+        freed: NO_SLOT as u32,
+        ended: flag(refusal.frees()),
+        written: 0,
+    }
+}
+
 fn answered(stage: u32, freed: Freed, written: usize) -> Numbers
     ensures { λ r. ⌜ r ≡ endpoint.answers stage freed written ⌝ }
 {
-    tell(0, 0, stage, freed_number(freed), stage == 0, written)
+    tell(0, stage, freed_number(freed), stage == 0, written)
 }
 
 pub fn numbers_of(a: Answer) -> Numbers
     ensures { λ r. ⌜ r ≡ endpoint.toldOf a ⌝ }
 {
     match a {
-        Answer::Refused(why) => tell(why.number() as u32, 0, 0, NO_SLOT, why.frees(), 0),
-        Answer::Begun { slot, count } => tell(0, slot, 0, NO_SLOT, false, count),
-        Answer::Arrived { slot } => tell(0, slot, 0, NO_SLOT, false, 0),
-        Answer::Closed => tell(0, 0, 0, NO_SLOT, false, 0),
+        Answer::Refused(refusal) => refuse(refusal),
+        Answer::Begun { slot, count } => tell(slot, 0, NO_SLOT, false, count),
+        Answer::Arrived { slot } => tell(slot, 0, NO_SLOT, false, 0),
+        Answer::Closed => tell(0, 0, NO_SLOT, false, 0),
         Answer::Answered {
             stage,
             freed,
@@ -81,11 +108,11 @@ pub fn numbers_of(a: Answer) -> Numbers
     }
 }
 
-pub fn making_number(m: Making) -> u32
-    ensures { λ r. ⌜ r ≡ makingNumber m ⌝ }
+pub fn making_why(m: Making) -> Why
+    ensures { λ r. ⌜ r ≡ rules.makingWhy m ⌝ }
 {
     match m {
-        Making::Ready => 0,
-        Making::NotMade(why) => why.number() as u32,
+        Making::Ready => unrefused(),
+        Making::NotMade(refusal) => refusal.why(),
     }
 }

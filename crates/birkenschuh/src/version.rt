@@ -9,7 +9,7 @@ ghost use Rattle.birkenschuh.specs.Version.{abi};
 pub extern "C" fn bks_abi() -> u32
     ensures { λ r. ⌜ r ≡ abi ⌝ }
 {
-    1
+    2
 }
 
 #[no_mangle]

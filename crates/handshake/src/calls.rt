@@ -1,9 +1,10 @@
 // The calls that a host makes, over an endpoint that it lends: changed where it lies, and asked for
 // nothing beforehand.
-use handshake_messages::flags::good_flags;
+use handshake_messages::recv::check_flags;
 use handshake_rules::endpoint::Answer;
 use handshake_rules::endpoint::Making;
 use handshake_rules::endpoint::Slot;
+use handshake_rules::refusal::Check;
 use handshake_rules::refusal::Refusal;
 use handshake_state::SIZE;
 use handshake_state::bytes::put_own;
@@ -12,25 +13,35 @@ ghost use mathlib.Core.Path.{_≡_};
 ghost use lib.ListN.{length};
 ghost use Rattle.handshake_rules.specs.Cookie.{cookies};
 ghost use Rattle.handshake_rules.specs.Endpoint.{slotAt};
-ghost use Rattle.handshake_rules.specs.Calls.{newOf, startOf, arriveOf, closeOf, messageOf};
+ghost use Rattle.handshake_rules.specs.Refusals.{checked};
+ghost use Rattle.handshake_rules.specs.Calls.{newTests, newOf, startOf, arriveOf, closeOf, messageOf};
 ghost use Rattle.handshake_state.specs.Bytes.{endpointOf, Makes, Tells, Does};
 
 // Start and message need so many output bytes; they write at most 294.
 pub const ROOM: usize = 300;
 
+// An endpoint's own name, then its flags.
+fn check_own(name: &[u8], flags: u64) -> Check
+    ensures { λ r. ⌜ r ≡ checked (newTests (now (name .entry)) flags) ⌝ }
+{
+    if !names::is_full_name(name) {
+        return Check::Refuse(Refusal::BadName);
+    }
+    check_flags(flags)
+}
+
 // Makes an endpoint.
 pub fn make(state: &mut [u8; SIZE], name: &[u8], flags: u64, creation: u32) -> Making
     ensures { λ r. ⌜ Makes (newOf (now (name .entry)) flags creation) r (now (state .entry)) (now (state .exit)) ⌝ }
 {
-    if !names::is_full_name(name) {
-        return Making::NotMade(Refusal::BadName);
+    match check_own(name, flags) {
+        Check::Refuse(why) => Making::NotMade(why),
+        Check::Pass => {
+            *state = [0u8; SIZE];
+            put_own(state, name, flags, creation);
+            Making::Ready
+        }
     }
-    if !good_flags(flags) {
-        return Making::NotMade(Refusal::BadFlags);
-    }
-    *state = [0u8; SIZE];
-    put_own(state, name, flags, creation);
-    Making::Ready
 }
 
 // Starts towards a full name: takes the lowest free slot and writes the name message.

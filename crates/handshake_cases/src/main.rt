@@ -11,6 +11,7 @@ use handshake::calls;
 use handshake_rules::endpoint::Answer;
 use handshake_rules::endpoint::Freed;
 use handshake_rules::endpoint::Making;
+use handshake_rules::refusal::Refusal;
 use libc::STDIN_FILENO;
 use libc::STDOUT_FILENO;
 use read::byte;
@@ -50,12 +51,19 @@ fn freed_number(freed: Freed) {
     }
 }
 
+fn tell_refusal(refusal: Refusal) {
+    let why = refusal.why();
+    word(b"refused");
+    number(why.number as u64);
+    number(why.missing as u64);
+    number(why.lowest as u64);
+}
+
 // Prints an answer, and tells how many bytes were written.
 fn tell(answer: Answer) -> usize {
     match answer {
-        Answer::Refused(why) => {
-            word(b"refused");
-            number(wide(why.number()));
+        Answer::Refused(refusal) => {
+            tell_refusal(refusal);
             0
         }
         Answer::Begun { slot, count } => {
@@ -118,10 +126,7 @@ fn make(e: &mut [u8; SIZE], r: &[u8]) {
     let making = calls::make(e, part(r, 14, 65535), num64(r, 2), num32(r, 10));
     match making {
         Making::Ready => word(b"made"),
-        Making::NotMade(why) => {
-            word(b"refused");
-            number(wide(why.number()));
-        }
+        Making::NotMade(refusal) => tell_refusal(refusal),
     }
 }
 

@@ -1,19 +1,28 @@
+// The flag test (02, P3), in the form that 01 names: a count of ones and of trailing zeros of the
+// required flags that the peer's flags lack.
 ghost use mathlib.Core.Path.{_≡_};
-ghost use Rattle.handshake_rules.specs.Flags.{goodFlags};
+ghost use Rattle.handshake_rules.specs.Flags.{flagTest};
+use handshake_rules::flags::FlagFlaw;
+use handshake_rules::flags::FlagTest;
 
-// Flags (01, The gate): bits 2, 8 and 24 are required, and bit 33 must be clear.
+// Bits 2, 8, 24, 25 and 34.
+const REQUIRED: u64 = 0x403000104;
 
-pub fn good_flags(flags: u64) -> bool
-    ensures { λ r. ⌜ r ≡ goodFlags flags ⌝ }
+// Bit 33, DFLAG_NAME_ME: a dynamic name is asked for.
+const NAME_ME: u64 = 0x200000000;
+
+pub fn flag_test(flags: u64) -> FlagTest
+    ensures { λ r. ⌜ r ≡ flagTest flags ⌝ }
 {
-    if flags / 4 % 2 != 1 {
-        return false;
+    let lacking = REQUIRED & !flags;
+    if lacking != 0 {
+        return FlagTest::Bad(FlagFlaw::Missing {
+            count: u64::count_ones(lacking),
+            lowest: u64::trailing_zeros(lacking),
+        });
     }
-    if flags / 256 % 2 != 1 {
-        return false;
+    if flags / NAME_ME % 2 == 1 {
+        return FlagTest::Bad(FlagFlaw::NameMe);
     }
-    if flags / 16777216 % 2 != 1 {
-        return false;
-    }
-    flags / 8589934592 % 2 != 1
+    FlagTest::Good
 }

@@ -1,14 +1,26 @@
-use crate::flags::good_flags;
+use crate::flags::flag_test;
+use handshake_rules::flags::FlagTest;
 use handshake_rules::refusal::Check;
 use handshake_rules::refusal::Refusal;
 ghost use mathlib.Core.Path.{_≡_};
 ghost use Prim.Native.Nat.{_≤_};
 ghost use lib.ListN.{length};
+ghost use Rattle.handshake_rules.specs.Flags.{flagTest};
 ghost use Rattle.handshake_rules.specs.Refusals.{checked};
-ghost use Rattle.handshake_rules.specs.Forms.{formTests, nameForm, challengeForm, statusForm, exactForm};
+ghost use Rattle.handshake_rules.specs.Forms.{flagTests, formTests, nameForm, challengeForm, statusForm, exactForm};
 
 // What is asked of a message before its stage's rule: the first byte, the length, the name and the
 // flags, in this order (01, refusals 4, 5, 6 and 9).
+
+// Flags, wherever they come from: what is wrong with them is carried on.
+pub fn check_flags(flags: u64) -> Check
+    ensures { λ r. ⌜ r ≡ checked (flagTests (flagTest flags)) ⌝ }
+{
+    match flag_test(flags) {
+        FlagTest::Good => Check::Pass,
+        FlagTest::Bad(flaw) => Check::Refuse(Refusal::BadFlags(flaw)),
+    }
+}
 
 pub fn check_name(body: &[u8]) -> Check
     requires { ⌜ 1 ≤ length (now body) ⌝ }
@@ -28,10 +40,7 @@ pub fn check_name(body: &[u8]) -> Check
     if !names::is_full_name(wire::get_part(body, 15, len)) {
         return Check::Refuse(Refusal::BadName);
     }
-    if !good_flags(wire::get64(body, 1)) {
-        return Check::Refuse(Refusal::BadFlags);
-    }
-    Check::Pass
+    check_flags(wire::get64(body, 1))
 }
 
 // The name must be the one that we started towards.
@@ -57,10 +66,7 @@ pub fn check_challenge(body: &[u8], peer: &[u8]) -> Check
     if !wire::same_bytes(peer, name) {
         return Check::Refuse(Refusal::BadName);
     }
-    if !good_flags(wire::get64(body, 1)) {
-        return Check::Refuse(Refusal::BadFlags);
-    }
-    Check::Pass
+    check_flags(wire::get64(body, 1))
 }
 
 pub fn check_status(body: &[u8]) -> Check

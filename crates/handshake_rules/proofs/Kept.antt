@@ -16,13 +16,14 @@ use Rattle.handshake_rules.specs.declared.endpoint.Freed.the-variants.{N
 use Rattle.handshake_rules.specs.declared.endpoint.Making.the-variants.{Ready, NotMade}
 use Rattle.handshake_rules.specs.State.{Made}
 use Rattle.handshake_rules.specs.Refusals.{checked, unless}
-use Rattle.handshake_rules.specs.Flags.{goodFlags}
+use Rattle.handshake_rules.specs.Flags.{goodFlags, flagTest}
 use Rattle.handshake_rules.specs.Endpoint.{freeSlot, fresh, put, freeOther}
 use Rattle.handshake_rules.specs.Cookie.{Cookies}
 use Rattle.handshake_rules.specs.Plans.{stop, go, Plan, sure, proven}
 use Rattle.handshake_rules.specs.Calls.{newTests, notMade, newOf, awaited}
 use Rattle.handshake_rules.specs.Runs.{Call, next, Asked, ends, MadeOf}
 use Rattle.handshake_rules.specs.Claims.{KeptWhole, MadeFresh}
+use Rattle.handshake_rules.proofs.FlagLaws.{none-bad, good-flags}
 use Rattle.handshake_rules.proofs.CheckLaws.{none-holds, not-not}
 use Rattle.handshake_rules.proofs.PlanLaws.{Does, after-call}
 
@@ -79,7 +80,7 @@ made-passed n f c g = by (checked (newTests n f)) refl where
       → unless notMade (record { making = Ready; endpoint = fresh n f c }) x ≡ record { making = Ready; endpoint = g } → Passed n f c g
   by Pass t e =
       let h = none-holds (newTests n f) t in
-      record { is = ap (λ (m : Made). m .endpoint) (sym e); full = not-not (fullName n) (h .0); good = not-not (goodFlags f) (h .1 .0) }
+      record { is = ap (λ (m : Made). m .endpoint) (sym e); full = not-not (fullName n) (h .0); good = good-flags f (none-bad (flagTest f) (h .1)) }
   by (Refuse r) t e = let q : NotMade r ≡ Ready = ap (λ (m : Made). m .making) e in let z : _≡_ {A = ℕ} 0 1 = cc in absurd (omega arith)
 
 pub made-fresh : MadeFresh

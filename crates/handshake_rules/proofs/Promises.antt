@@ -5,6 +5,8 @@ use Rattle.handshake_rules.proofs.Checks.{check-made}
 use Rattle.handshake_rules.proofs.Connected.{only-by-digest, connected-by-digest}
 use Rattle.handshake_rules.proofs.Sent.{sent-challenge, sent-reply, last-sent}
 use Rattle.handshake_rules.proofs.Refused.{refused-quietly}
+use Rattle.handshake_rules.proofs.FlagLaws.{flags-tested, one-answer, good-exactly}
+use Rattle.handshake_rules.proofs.Nine.{carried-on}
 use Rattle.handshake_rules.proofs.Numbers.{given-exactly, numbers-apart}
 use Rattle.handshake_rules.proofs.Kept.{kept-whole, made-fresh}
 use Rattle.handshake_rules.proofs.Size.{writes-little}
@@ -30,6 +32,10 @@ promises =
       refused-quietly = refused-quietly;
       given-exactly = given-exactly;
       numbers-apart = numbers-apart;
+      flags-tested = flags-tested;
+      one-answer = one-answer;
+      good-exactly = good-exactly;
+      carried-on = carried-on;
       kept-whole = kept-whole;
       made-fresh = made-fresh;
       writes-little = writes-little;

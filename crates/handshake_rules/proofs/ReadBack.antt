@@ -16,15 +16,17 @@ use Rattle.wire.proofs.FrameLaws.{frame-of, framed-length}
 use Rattle.wire.proofs.LayoutLaws.{layout-back, beAt-behind}
 use Rattle.names.specs.Full.{fullName}
 use Rattle.handshake_rules.specs.declared.refusal.Check.the-variants.{Pass}
+use Rattle.handshake_rules.specs.declared.flags.FlagTest.the-variants.{Good}
 use Rattle.handshake_rules.specs.Refusals.{checked}
-use Rattle.handshake_rules.specs.Flags.{goodFlags}
+use Rattle.handshake_rules.specs.Flags.{flagTest}
 use Rattle.handshake_rules.specs.Messages.{nameL, challengeL, statusL, replyL, ackL, nameTag, statusTag, replyTag, ackTag, tagOf, nameMessage, challengeMessage, statusMessage, replyMessage, ackMessage, challengeName}
 use Rattle.handshake_rules.specs.Forms.{Form, formTests, challengeForm}
 use Rattle.handshake_rules.specs.MessageClaims.{NameReadBack, ChallengeReadBack, StatusReadBack, ReplyReadBack, AckReadBack, FrameSplits}
+use Rattle.handshake_rules.proofs.FlagLaws.{test-good}
 use Rattle.handshake_rules.proofs.MessageLaws.{full-short, name-size, challenge-size, status-size, reply-size, ack-size}
 
 -- a form all of whose tests are met passes
-passes-all : (f : Form) → f .served ≡ true → f .fits ≡ true → f .named ≡ true → f .flagged ≡ true → checked (formTests f) ≡ Pass
+passes-all : (f : Form) → f .served ≡ true → f .fits ≡ true → f .named ≡ true → f .flags ≡ Good → checked (formTests f) ≡ Pass
 passes-all f a b c d = rw (a, b, c, d)
 
 -- the frame of a layout's fields, read by that layout
@@ -59,7 +61,7 @@ name-read-back f c n hf hc full good =
         whole = fr .0;
         passes =
             passes-all _ (eq-eqb _ nameTag (int-back nameL vs fits (body w) e 0)) (le-leb (extent nameL (body w)) (length (body w)) (omega (arith, all-taken nameL vs fits (body w) e)))
-            (ap fullName nm ∙ full) (ap goodFlags fl ∙ good);
+            (ap fullName nm ∙ full) (ap flagTest fl ∙ test-good f good);
       };
       flags = fl;
       creation = int-back nameL vs fits (body w) e 2;
@@ -84,7 +86,7 @@ challenge-read-back f h c n hf hh hc full good =
         whole = fr .0;
         passes =
             passes-all (challengeForm n (body w)) (eq-eqb _ nameTag (int-back challengeL vs fits (body w) e 0)) (le-leb (extent challengeL (body w)) (length (body w)) (omega (arith, all-taken challengeL vs fits (body w) e)))
-            (rw (ap fullName nm ∙ full) (same-decides n (challengeName (body w)) .1 (sym nm))) (ap goodFlags fl ∙ good);
+            (rw (ap fullName nm ∙ full) (same-decides n (challengeName (body w)) .1 (sym nm))) (ap flagTest fl ∙ test-good f good);
       };
       flags = fl;
       challenge = int-back challengeL vs fits (body w) e 2;

@@ -9,7 +9,8 @@ use Rattle.wire.specs.Frame.{isFrame, body}
 use Rattle.names.specs.Held.{nameOf, nameBytes}
 use Rattle.names.specs.Full.{fullName}
 use Rattle.handshake_rules.specs.declared.refusal.Refusal.{Refusal}
-use Rattle.handshake_rules.specs.declared.refusal.Refusal.the-variants.{OutputTooShort, SlotNotTaken, NotAFrame, UnknownTag, BadName, BadFlags, AlreadyConnected, BadCookie, PeerTaken, NoFreeSlot}
+use Rattle.handshake_rules.specs.declared.refusal.Refusal.the-variants.{OutputTooShort, SlotNotTaken, NotAFrame, UnknownTag, BadName, AlreadyConnected, BadCookie, PeerTaken, NoFreeSlot}
+use Rattle.handshake_rules.specs.declared.flags.FlagTest.the-variants.{Good}
 use Rattle.handshake_rules.specs.declared.endpoint.Stage.{Stage}
 use Rattle.handshake_rules.specs.declared.endpoint.Stage.the-variants.{Free, AwaitsName, AwaitsAlive, AwaitsReply, AwaitsStatus, AwaitsChallenge, AwaitsAck, Connected}
 use Rattle.handshake_rules.specs.declared.endpoint.Slot.{Slot}
@@ -20,10 +21,10 @@ use Rattle.handshake_rules.specs.State.{Made}
 use Rattle.handshake_rules.specs.declared.endpoint.Answer.the-variants.{Refused, Begun, Arrived, Closed}
 use Rattle.handshake_rules.specs.State.{Told}
 use Rattle.handshake_rules.specs.Refusals.{Test, _given-if_, checked, unless}
-use Rattle.handshake_rules.specs.Flags.{goodFlags}
+use Rattle.handshake_rules.specs.Flags.{flagTest}
 use Rattle.handshake_rules.specs.Endpoint.{fresh, idle, connected, kind, slotAt, put, freed, vacant, lowest, lowestFree, isSlot}
 use Rattle.handshake_rules.specs.Messages.{nameMessage}
-use Rattle.handshake_rules.specs.Forms.{formTests}
+use Rattle.handshake_rules.specs.Forms.{flagTests, formTests}
 use Rattle.handshake_rules.specs.Cookie.{Cookies, checking, writing, fit}
 use Rattle.handshake_rules.specs.Plans.{Done, Plan, fails, Expected, concluded}
 use Rattle.handshake_rules.specs.Accepting.{expectName, expectAlive, expectReply}
@@ -33,7 +34,7 @@ use Rattle.handshake_rules.specs.Connecting.{expectStatus, expectChallen
 
 -- "Making a gate refuses a bad name with 6, then bad flags with 9."
 abbrev pub newTests : List ℕ → ℕ → List Test
-newTests n f = BadName given-if not (fullName n) ∷ BadFlags given-if not (goodFlags f) ∷ []
+newTests n f = BadName given-if not (fullName n) ∷ flagTests (flagTest f)
 
 -- beside a refusal stands an endpoint that has no name and no flags
 abbrev pub notMade : Refusal → Made
@@ -108,7 +109,7 @@ closeOf g s = unless (kept g) (record { answer = Closed; endpoint = freed g s })
 
 -- no message is served on a free or a connected slot
 abbrev pub nothing : Expected
-nothing = record { form = record { served = false; fits = true; named = true; flagged = true }; rule = fails UnknownTag }
+nothing = record { form = record { served = false; fits = true; named = true; flags = Good }; rule = fails UnknownTag }
 
 -- g: the endpoint; sl: the slot's record; c: the challenge lent to this call; b: the body
 unfoldable pub expected : Endpoint → Slot → ℕ → List ℕ → Stage → Expected

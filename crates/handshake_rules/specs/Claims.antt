@@ -1,5 +1,5 @@
--- What is proved of the calls' definitions, beside the contracts that are equations with them; of slots in SlotClaims, of messages in MessageClaims. Each
--- claim names the theorem in proofs/ that is its proof.
+-- What is proved of the calls' definitions, beside the contracts that are equations with them; of slots in SlotClaims, of messages in MessageClaims, of
+-- refusals in NumberClaims, of flags in FlagClaims. Each claim names the theorem in proofs/ that is its proof.
 use Prim.Native.Nat.{ℕ, _≤_}
 use mathlib.Core.Path.{_≡_}
 use mathlib.Core.Bool.{Bool, true, false}
@@ -26,6 +26,7 @@ use Rattle.handshake_rules.specs.Plans.{spared, concluded}
 use Rattle.handshake_rules.specs.Calls.{newTests, startTests, begun, startOf, arriveTests, arrived, arriveOf, closeTests, closeOf, awaited, messageTests, messageOf}
 use Rattle.handshake_rules.specs.Runs.{Call, Start, Arrive, Close, Message, step, next, lent, left, used, checkOf, Given, moments, beforeSplit, All, Alike, Agree, Asked, ends, MadeOf}
 use Rattle.handshake_rules.specs.NumberClaims.{GivenExactly, NumbersApart}
+use Rattle.handshake_rules.specs.FlagClaims.{FlagsTested, OneAnswer, GoodExactly, CarriedOn}
 use Rattle.handshake_rules.specs.MessageClaims.{NameReadBack, ChallengeReadBack, StatusReadBack, ReplyReadBack, AckReadBack, FrameSplits}
 use Rattle.handshake_rules.specs.SlotClaims.{OnlyByDigest, ConnectedByDigest, SentChallenge, SentReply, LastSent, Recorded, PeersApart, Lasting, SlotSteps, FreedWasTaken, StageTold, EndsTold, EndExact}
 
@@ -156,6 +157,10 @@ pub record Promises : Type 0 where
   pub refused-quietly : RefusedQuietly
   pub given-exactly : GivenExactly
   pub numbers-apart : NumbersApart
+  pub flags-tested : FlagsTested
+  pub one-answer : OneAnswer
+  pub good-exactly : GoodExactly
+  pub carried-on : CarriedOn
   pub kept-whole : KeptWhole
   pub made-fresh : MadeFresh
   pub writes-little : WritesLittle

@@ -9,21 +9,28 @@ use Rattle.wire.specs.Layout.{extent}
 use Rattle.names.specs.Full.{fullName}
 use Rattle.handshake_rules.specs.declared.refusal.Refusal.the-variants.{UnknownTag, BadLength, BadName, BadFlags}
 use Rattle.handshake_rules.specs.Refusals.{Test, _given-if_}
-use Rattle.handshake_rules.specs.Flags.{goodFlags}
+use Rattle.handshake_rules.specs.declared.flags.FlagTest.{FlagTest}
+use Rattle.handshake_rules.specs.declared.flags.FlagTest.the-variants.{Good, Bad}
+use Rattle.handshake_rules.specs.Flags.{flagTest}
 use Rattle.handshake_rules.specs.Messages.{nameL, challengeL, replyL, ackL, tagOf, nameTag, statusTag, replyTag, ackTag, nameFlags, nameName, challengeFlags, challengeName}
 
--- where something is not tested it is true
+-- where something is not tested it is true, and flags are good
 pub record Form : Type 0 where
   pub served : Bool
   pub fits : Bool
   pub named : Bool
-  pub flagged : Bool
+  pub flags : FlagTest
+
+-- 9, with what the flag test answers
+abbrev pub flagTests : FlagTest → List Test
+flagTests Good = []
+flagTests (Bad w) = BadFlags w given-if true ∷ []
 
 -- in this order
 abbrev pub formTests : Form → List Test
 formTests f =
     UnknownTag given-if not (f .served) ∷ BadLength given-if not (f .fits) ∷ BadName given-if not (f .named)
-    ∷ BadFlags given-if not (f .flagged) ∷ []
+    ∷ flagTests (f .flags)
 
 -- a name message. "In both, bytes behind the name are accepted and ignored."
 abbrev pub nameForm : List ℕ → Form
@@ -32,7 +39,7 @@ nameForm b =
       served = eqb (tagOf b) nameTag;
       fits = leb (extent nameL b) (length b);
       named = fullName (nameName b);
-      flagged = goodFlags (nameFlags b);
+      flags = flagTest (nameFlags b);
     }
 
 -- a challenge message. "The name must be the one started towards."
@@ -42,16 +49,16 @@ challengeForm peer b =
       served = eqb (tagOf b) nameTag;
       fits = leb (extent challengeL b) (length b);
       named = fullName (challengeName b) && sameBytes peer (challengeName b);
-      flagged = goodFlags (challengeFlags b);
+      flags = flagTest (challengeFlags b);
     }
 
 -- a status message, of any length
 abbrev pub statusForm : List ℕ → Form
-statusForm b = record { served = eqb (tagOf b) statusTag; fits = true; named = true; flagged = true }
+statusForm b = record { served = eqb (tagOf b) statusTag; fits = true; named = true; flags = Good }
 
 -- a message that is so long and no longer
 abbrev pub exactForm : ℕ → ℕ → List ℕ → Form
-exactForm tag size b = record { served = eqb (tagOf b) tag; fits = eqb (length b) size; named = true; flagged = true }
+exactForm tag size b = record { served = eqb (tagOf b) tag; fits = eqb (length b) size; named = true; flags = Good }
 
 abbrev pub replyForm : List ℕ → Form
 replyForm b = exactForm replyTag (extent replyL b) b

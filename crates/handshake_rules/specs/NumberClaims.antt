@@ -6,28 +6,37 @@ use mathlib.Core.Bool.{Bool, false, not, _||_}
 use mathlib.Core.List.{List, [], _∷_, _++_}
 use Rattle.wire.specs.Run.{sameBytes}
 use Rattle.wire.specs.Frame.{body}
-use Rattle.handshake_rules.specs.declared.refusal.Refusal.the-variants.{UnknownStatus, WrongDigest, Declined}
+use Rattle.handshake_rules.specs.declared.refusal.Why.{Why}
+use Rattle.handshake_rules.specs.declared.refusal.Refusal.the-variants.{BadFlags, UnknownStatus, WrongDigest, Declined}
+use Rattle.handshake_rules.specs.declared.flags.FlagFlaw.{FlagFlaw}
+use Rattle.handshake_rules.specs.declared.flags.FlagTest.the-variants.{Bad}
 use Rattle.handshake_rules.specs.declared.refusal.Check.{Check}
 use Rattle.handshake_rules.specs.declared.refusal.Check.the-variants.{Pass, Refuse}
 use Rattle.handshake_rules.specs.declared.endpoint.Stage.{Stage}
 use Rattle.handshake_rules.specs.declared.endpoint.Stage.the-variants.{Free, AwaitsName, AwaitsAlive, AwaitsReply, AwaitsStatus, AwaitsChallenge, AwaitsAck, Connected}
 use Rattle.handshake_rules.specs.declared.endpoint.Slot.{Slot}
 use Rattle.handshake_rules.specs.State.{Endpoint}
-use Rattle.handshake_rules.specs.Refusals.{refusalNumber, Test, _given-if_, checked}
-use Rattle.handshake_rules.specs.Answers.{unrefused, makingNumber, numbersOf}
+use Rattle.handshake_rules.specs.Refusals.{whyOf, Test, _given-if_, checked}
+use Rattle.handshake_rules.specs.Answers.{unrefused, makingWhy, numbersOf}
+use Rattle.handshake_rules.specs.Flags.{flagTest}
 use Rattle.handshake_rules.specs.Endpoint.{slotAt}
 use Rattle.handshake_rules.specs.Messages.{statusWord, replyDigest, ackDigest, ok, okSimultaneous, nok, notAllowed, alive, trueWord, falseWord}
 use Rattle.handshake_rules.specs.Cookie.{Cookies, checking, writing, fit, digestOf}
 use Rattle.handshake_rules.specs.Calls.{newTests, newOf, startTests, startOf, arriveTests, arriveOf, closeTests, closeOf, awaited, messageTests, messageOf}
 
--- the number of what a list of tests comes to
-abbrev pub checkNumber : Check → ℕ
-checkNumber Pass = unrefused
-checkNumber (Refuse r) = refusalNumber r
+-- what a caller sees of what a list of tests comes to
+abbrev pub checkWhy : Check → Why
+checkWhy Pass = unrefused
+checkWhy (Refuse r) = whyOf r
 
--- each refusal has its own number, and none has that of an answer (Numbers.numbers-apart)
+-- a refusal that a call can give: 9 carries what the flag test answers of some flags (CarriedOn)
+abbrev pub Givable : Check → Type 0
+Givable Pass = Unit
+Givable (Refuse r) = (w : FlagFlaw) → r ≡ BadFlags w → (f : ℕ) × (flagTest f ≡ Bad w)
+
+-- each refusal has numbers of its own, and none has those of an answer (Numbers.numbers-apart)
 abbrev pub NumbersApart : Type 0
-NumbersApart = (x y : Check) → checkNumber x ≡ checkNumber y → x ≡ y
+NumbersApart = (x y : Check) → Givable x → Givable y → checkWhy x ≡ checkWhy y → x ≡ y
 
 abbrev pub isOneOf : List (List ℕ) → List ℕ → Bool
 isOneOf [] w = false
@@ -54,9 +63,9 @@ allTests k g s f c size =
 
 -- (Numbers.given-exactly)
 pub record GivenExactly : Type 0 where
-  pub making : (n : List ℕ) (f c : ℕ) → makingNumber (newOf n f c .making) ≡ checkNumber (checked (newTests n f))
-  pub start : (g : Endpoint) (n : List ℕ) (size : ℕ) → numbersOf (startOf g n size .told .answer) .refusal ≡ checkNumber (checked (startTests g n size))
-  pub arrive : (g : Endpoint) → numbersOf (arriveOf g .answer) .refusal ≡ checkNumber (checked (arriveTests g))
-  pub close : (g : Endpoint) (s : ℕ) → numbersOf (closeOf g s .answer) .refusal ≡ checkNumber (checked (closeTests g s))
+  pub making : (n : List ℕ) (f c : ℕ) → makingWhy (newOf n f c .making) ≡ checkWhy (checked (newTests n f))
+  pub start : (g : Endpoint) (n : List ℕ) (size : ℕ) → numbersOf (startOf g n size .told .answer) .why ≡ checkWhy (checked (startTests g n size))
+  pub arrive : (g : Endpoint) → numbersOf (arriveOf g .answer) .why ≡ checkWhy (checked (arriveTests g))
+  pub close : (g : Endpoint) (s : ℕ) → numbersOf (closeOf g s .answer) .why ≡ checkWhy (checked (closeTests g s))
   pub message : (k : Cookies) (g : Endpoint) (s : ℕ) (f : List ℕ) (c size : ℕ)
-      → numbersOf (messageOf k g s f c size .told .answer) .refusal ≡ checkNumber (checked (allTests k g s f c size))
+      → numbersOf (messageOf k g s f c size .told .answer) .why ≡ checkWhy (checked (allTests k g s f c size))

@@ -4,26 +4,37 @@ use mathlib.Core.Bool.{Bool, true, false, cond}
 use mathlib.Core.List.{List, [], _∷_}
 use Rattle.handshake_rules.specs.declared.refusal.Refusal.{Refusal}
 use Rattle.handshake_rules.specs.declared.refusal.Refusal.the-variants.{OutputTooShort, SlotNotTaken, NotAFrame, UnknownTag, BadLength, BadName, BadFlags, AlreadyConnected, BadCookie, PeerTaken, NoFreeSlot, UnknownStatus, WrongDigest, Declined}
+use Rattle.handshake_rules.specs.declared.refusal.Why.{Why}
+use Rattle.handshake_rules.specs.declared.flags.FlagFlaw.{FlagFlaw}
 use Rattle.handshake_rules.specs.declared.refusal.Check.{Check}
 use Rattle.handshake_rules.specs.declared.refusal.Check.the-variants.{Pass, Refuse}
+use Rattle.handshake_rules.specs.Flags.{flawCount, flawBit}
 
 infix 70 _given-if_
--- the table's first column
-abbrev pub refusalNumber : Refusal → ℕ
-refusalNumber OutputTooShort = 1
-refusalNumber SlotNotTaken = 2
-refusalNumber NotAFrame = 3
-refusalNumber UnknownTag = 4
-refusalNumber BadLength = 5
-refusalNumber BadName = 6
-refusalNumber BadFlags = 9
-refusalNumber AlreadyConnected = 10
-refusalNumber BadCookie = 11
-refusalNumber PeerTaken = 12
-refusalNumber NoFreeSlot = 13
-refusalNumber UnknownStatus = 14
-refusalNumber WrongDigest = 15
-refusalNumber Declined = 16
+-- a number that nothing is told beside; 0 is that of no refusal
+abbrev pub only : ℕ → Why
+only n = record { number = n; missing = 0; lowest = 0 }
+
+-- 02, P3. "Every call that gives 9 carries this on."
+abbrev pub ofFlags : FlagFlaw → Why
+ofFlags w = record { number = 9; missing = flawCount w; lowest = flawBit w }
+
+-- the table's first column, and what is told beside it
+abbrev pub whyOf : Refusal → Why
+whyOf OutputTooShort = only 1
+whyOf SlotNotTaken = only 2
+whyOf NotAFrame = only 3
+whyOf UnknownTag = only 4
+whyOf BadLength = only 5
+whyOf BadName = only 6
+whyOf (BadFlags w) = ofFlags w
+whyOf AlreadyConnected = only 10
+whyOf BadCookie = only 11
+whyOf PeerTaken = only 12
+whyOf NoFreeSlot = only 13
+whyOf UnknownStatus = only 14
+whyOf WrongDigest = only 15
+whyOf Declined = only 16
 
 -- "Keep" changes nothing; "free" frees the slot named.
 pub data Fate : Type 0 where
@@ -37,7 +48,7 @@ messageFate NotAFrame = free
 messageFate UnknownTag = free
 messageFate BadLength = free
 messageFate BadName = free
-messageFate BadFlags = free
+messageFate (BadFlags w) = free
 messageFate AlreadyConnected = keep
 messageFate BadCookie = keep
 messageFate PeerTaken = keep

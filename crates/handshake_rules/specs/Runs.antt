@@ -125,8 +125,8 @@ unfoldable pub Alike : Moment → Type 0
 Alike m =
     map allowed (used (m .first) (m .given .call) (m .given .one)) ≡ map allowed (used (m .second) (m .given .call) (m .given .two))
 
--- "An answer is all that a call tells. The gate is compared in all that it holds, each slot's stage too." A byte is excepted where both runs write a
--- digest there
+-- "An answer is all that a call tells", what 9 carries too (02, P3. "Demand 3 covers the new numbers too."). "The gate is compared in all that it holds,
+-- each slot's stage too." A byte is excepted where both runs write a digest there
 pub record Same (w₁ w₂ : Writes) (d₁ d₂ : Done) (out₁ out₂ : List ℕ) : Type 0 where
   pub answer : d₁ .told .answer ≡ d₂ .told .answer
   pub endpoint : d₁ .told .endpoint ≡ d₂ .told .endpoint

@@ -1,5 +1,6 @@
 ghost use mathlib.Core.Path.{_≡_};
-ghost use Rattle.handshake_rules.specs.Refusals.{refusalNumber, messageFate, isFree};
+ghost use Rattle.handshake_rules.specs.Refusals.{whyOf, messageFate, isFree};
+use crate::flags::FlagFlaw;
 
 pub enum Refusal {
     OutputTooShort,
@@ -8,7 +9,7 @@ pub enum Refusal {
     UnknownTag,
     BadLength,
     BadName,
-    BadFlags,
+    BadFlags(FlagFlaw),
     AlreadyConnected,
     BadCookie,
     PeerTaken,
@@ -24,10 +25,17 @@ pub enum Check {
     Refuse(Refusal),
 }
 
+// What a refused caller sees: the number and, beside 9, how many required flags are missing and the
+// lowest of them by its bit, or 0 and 33. Beside all else both are 0.
+pub struct Why {
+    pub number: u32,
+    pub missing: u32,
+    pub lowest: u32,
+}
+
 impl Refusal {
-    // The number that a refused caller sees.
-    pub fn number(self) -> u8
-        ensures { λ r. ⌜ r ≡ refusalNumber self ⌝ }
+    fn number(self) -> u32
+        ensures { λ r. ⌜ r ≡ whyOf self .number ⌝ }
     {
         match self {
             Refusal::OutputTooShort => 1,
@@ -36,7 +44,7 @@ impl Refusal {
             Refusal::UnknownTag => 4,
             Refusal::BadLength => 5,
             Refusal::BadName => 6,
-            Refusal::BadFlags => 9,
+            Refusal::BadFlags(_) => 9,
             Refusal::AlreadyConnected => 10,
             Refusal::BadCookie => 11,
             Refusal::PeerTaken => 12,
@@ -44,6 +52,35 @@ impl Refusal {
             Refusal::UnknownStatus => 14,
             Refusal::WrongDigest => 15,
             Refusal::Declined => 16,
+        }
+    }
+
+    fn missing(self) -> u32
+        ensures { λ r. ⌜ r ≡ whyOf self .missing ⌝ }
+    {
+        match self {
+            Refusal::BadFlags(flaw) => flaw.count(),
+            _ => 0,
+        }
+    }
+
+    fn lowest(self) -> u32
+        ensures { λ r. ⌜ r ≡ whyOf self .lowest ⌝ }
+    {
+        match self {
+            Refusal::BadFlags(flaw) => flaw.bit(),
+            _ => 0,
+        }
+    }
+
+    // The numbers that a refused caller sees.
+    pub fn why(self) -> Why
+        ensures { λ r. ⌜ r ≡ whyOf self ⌝ }
+    {
+        Why {
+            number: self.number(),
+            missing: self.missing(),
+            lowest: self.lowest(),
         }
     }
 
@@ -58,7 +95,7 @@ impl Refusal {
             Refusal::UnknownTag => true,
             Refusal::BadLength => true,
             Refusal::BadName => true,
-            Refusal::BadFlags => true,
+            Refusal::BadFlags(_) => true,
             Refusal::AlreadyConnected => false,
             Refusal::BadCookie => false,
             Refusal::PeerTaken => false,

@@ -1,10 +1,11 @@
-// 01's frames worked by hand, C1 to C10, and P2's Results, run through the code: a line a case, with
-// the bytes or the number that it gives. stdout was written by hand from 01 and 02. That C1 to C9 hold
-// of the definitions is a theorem of `worked`.
+// 01's frames worked by hand, C1 to C10, P2's Results and P3's flags, run through the code: a line a
+// case, with the bytes or the numbers that it gives. stdout was written by hand from 01 and 02. That C1
+// to C9 and the flags hold of the definitions are theorems of `worked`.
 use bounds::show_bounds;
 use bounds::show_results;
 use epmd::ROOM;
 use epmd::SIZE;
+use flags::show_flags;
 use handshake::ROOM as MESSAGE;
 use handshake::SIZE as ENDPOINT;
 use print::bytes;
@@ -12,6 +13,7 @@ use print::first;
 use print::word;
 
 mod bounds;
+mod flags;
 mod print;
 
 // Puts a frame to the mapper, and prints the reply or the refusal.
@@ -46,8 +48,8 @@ fn show_messages() {
     let mut b = [0u8; ENDPOINT];
     let mut out = [0u8; MESSAGE];
     let mut back = [0u8; MESSAGE];
-    handshake::calls::make(&mut a, b"a@b", 0x1000104, 7);
-    handshake::calls::make(&mut b, b"b@b", 0x1000104, 8);
+    handshake::calls::make(&mut a, b"a@b", 0x403000104, 7);
+    handshake::calls::make(&mut b, b"b@b", 0x403000104, 8);
     handshake::calls::start(&mut a, b"b@b", &mut out);
     word(b"C5: ");
     bytes(first(&out, 20));
@@ -84,4 +86,5 @@ fn main() {
     show_text();
     show_bounds();
     show_results();
+    show_flags();
 }

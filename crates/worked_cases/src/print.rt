@@ -33,6 +33,17 @@ pub(crate) fn refusal(number: u32) {
     word(b"\n");
 }
 
+// A refusal's number, and what is told beside it.
+pub(crate) fn numbers(number: u32, missing: u32, lowest: u32) {
+    word(b"refused ");
+    io::print_decimal(STDOUT_FILENO, number as u64);
+    word(b" ");
+    io::print_decimal(STDOUT_FILENO, missing as u64);
+    word(b" ");
+    io::print_decimal(STDOUT_FILENO, lowest as u64);
+    word(b"\n");
+}
+
 // Minus one, zero or one.
 pub(crate) fn signed(n: i8) {
     if n < 0 {

@@ -7,7 +7,7 @@ use std::arch::x86_64::{_mm_lfence, _mm_mfence, _rdtsc};
 use std::hint::black_box;
 use std::time::{Duration, Instant};
 
-const FLAGS: u64 = 0x100_0104;
+const FLAGS: u64 = birkenschuh::REQUIRED_FLAGS;
 const TURNS: usize = 15;
 const TIMES: u32 = 2_000;
 
@@ -108,6 +108,12 @@ macro_rules! cases {
             &crowd,
             message(31, &name),
         );
+        // The byte of bit 34.
+        let mut lacking = name.clone();
+        lacking[6] = 0;
+        let refused = b.clone().message(0, &lacking, 0, cookies(), &mut to_a);
+        assert!(refused.is_err());
+        case("message: name, refused with 9", &b, message(0, &lacking));
         let told = b
             .message(0, &name, 1_234_567, cookies(), &mut to_a)
             .unwrap();

@@ -107,7 +107,7 @@ fn listing(case: &str, names: &[Vec<u8>]) {
     let (ours, peer) = (client::read_names(&reply), model::read_names(&reply));
     assert_eq!(
         ours.map(|it| it.lines().len()).map_err(|it| it.number()),
-        peer.map(|it| it.lines.len()).map_err(|it| it as u32)
+        peer.map(|it| it.lines.len()).map_err(|it| it.number())
     );
     row(
         &format!("NAMES reply read, {case}"),

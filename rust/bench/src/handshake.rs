@@ -2,7 +2,7 @@
 
 use crate::timing::{row, Contender};
 
-const FLAGS: u64 = 0x100_0104;
+const FLAGS: u64 = birkenschuh::REQUIRED_FLAGS;
 
 /// Name, status, challenge, reply and acknowledgement, from start and arrive to connected, and both closed:
 /// nine calls. The two crates have the same calls under the same names.

@@ -1,14 +1,12 @@
 //! 01, "The gate".
 
 use crate::bytes::{Short, Writer};
-use crate::{md5, Refusal, Slot, Stage};
+use crate::{md5, test_flags, Refusal, Slot, Stage};
 
 /// The output that start and message need.
 pub const ENDPOINT_OUTPUT: usize = 300;
 
 const SLOTS: usize = 32;
-const REQUIRED: u64 = 1 << 2 | 1 << 8 | 1 << 24;
-const ASKS_FOR_NAME: u64 = 1 << 33;
 
 /// The two cookies lent with a message.
 #[derive(Clone, Copy, Debug)]
@@ -48,7 +46,7 @@ pub struct Answered {
 /// The endpoint: name, flags, creation and 32 slots.
 ///
 /// ```
-/// let mut endpoint = model::Endpoint::new(b"a@b", 0x100_0104, 7).unwrap();
+/// let mut endpoint = model::Endpoint::new(b"a@b", 0x4_0300_0104, 7).unwrap();
 /// let mut out = [0; model::ENDPOINT_OUTPUT];
 /// assert_eq!(endpoint.start(b"c@d", &mut out).unwrap().written, 20);
 /// ```
@@ -68,10 +66,6 @@ pub fn is_full_name(name: &[u8]) -> bool {
         && matches!(parts, (Some(alive), Some(host), None) if !alive.is_empty() && !host.is_empty())
 }
 
-pub(crate) fn are_good(flags: u64) -> bool {
-    flags & (REQUIRED | ASKS_FOR_NAME) == REQUIRED
-}
-
 /// MD5 of the challenge as decimal text, followed by the cookie.
 pub fn digest(challenge: u32, cookie: &[u8]) -> [u8; 16] {
     let mut text = challenge.to_string().into_bytes();
@@ -85,9 +79,7 @@ impl Endpoint {
         if !is_full_name(name) {
             return Err(Refusal::BadName);
         }
-        if !are_good(flags) {
-            return Err(Refusal::BadFlags);
-        }
+        test_flags(flags)?;
         Ok(Endpoint {
             name: Short::new(name),
             flags,

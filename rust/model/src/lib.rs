@@ -9,6 +9,7 @@
 mod bytes;
 mod client;
 mod endpoint;
+mod flags;
 mod layout;
 mod md5;
 mod names;
@@ -21,6 +22,7 @@ pub use bytes::Short;
 pub use client::{alive2_request, names_request, port_please2_request, Node};
 pub use client::{read_alive2, read_port2, Alive2Reply, Port2Reply};
 pub use endpoint::{digest, is_full_name, Answered, Cookies, Endpoint, Started, ENDPOINT_OUTPUT};
+pub use flags::{test_flags, FlagFlaw};
 pub use md5::md5;
 pub use names::{read_names, NamesLine, NamesReply};
 pub use refusal::Refusal;

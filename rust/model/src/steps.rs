@@ -5,8 +5,8 @@
 use std::cmp::Ordering;
 
 use crate::bytes::{body, Reader, Short, Writer};
-use crate::endpoint::{are_good, digest, is_full_name};
-use crate::{Endpoint, Refusal, Stage};
+use crate::endpoint::{digest, is_full_name};
+use crate::{test_flags, Endpoint, Refusal, Stage};
 
 /// The slot's new stage, and another slot that was freed.
 type Step = Result<(Stage, Option<usize>), Refusal>;
@@ -38,12 +38,10 @@ impl<'a> Peer<'a> {
     /// The name must be what `is_name` takes, and then the flags good.
     fn check(self, is_name: impl Fn(&[u8]) -> bool) -> Result<Peer<'a>, Refusal> {
         if !is_name(self.name) {
-            Err(Refusal::BadName)
-        } else if !are_good(self.flags) {
-            Err(Refusal::BadFlags)
-        } else {
-            Ok(self)
+            return Err(Refusal::BadName);
         }
+        test_flags(self.flags)?;
+        Ok(self)
     }
 }
 

@@ -3,7 +3,7 @@
 use model::{Cookies, Endpoint, Refusal, Registry, ENDPOINT_OUTPUT, REGISTRY_OUTPUT};
 
 const RIDE: &[u8] = b"\x00\x11\x78\x11\x12\x4d\x00\x00\x06\x00\x05\x00\x04\x72\x69\x64\x65\x00\x00";
-const GOOD: u64 = 0x100_0104;
+const GOOD: u64 = 0x4_0300_0104;
 
 fn reply(registry: &mut Registry, connection: u32, frame: &[u8]) -> Result<Vec<u8>, Refusal> {
     let mut out = vec![0; REGISTRY_OUTPUT];
@@ -48,7 +48,7 @@ fn c5_and_c6_name_message_and_status() {
     let mut out = [0; ENDPOINT_OUTPUT];
     let mut initiator = Endpoint::new(b"a@b", GOOD, 7).unwrap();
     let written = initiator.start(b"a@bc", &mut out).unwrap().written;
-    let name = b"\x00\x12\x4e\x00\x00\x00\x00\x01\x00\x01\x04\x00\x00\x00\x07\x00\x03\x61\x40\x62";
+    let name = b"\x00\x12\x4e\x00\x00\x00\x04\x03\x00\x01\x04\x00\x00\x00\x07\x00\x03\x61\x40\x62";
     assert_eq!(out[..written], *name);
 
     let mut acceptor = Endpoint::new(b"a@bc", GOOD, 7).unwrap();

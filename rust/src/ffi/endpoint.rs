@@ -8,6 +8,18 @@ pub struct bks_endpoint {
     pub bytes: [u8; 9_004],
 }
 
+/// What making gives.
+#[derive(Clone, Copy, Debug, PartialEq, Eq)]
+#[repr(C)]
+pub struct bks_made {
+    /// 0, or the refusal's number.
+    pub refusal: u32,
+    /// Beside 9 how many required flags are missing; otherwise 0.
+    pub missing: u32,
+    /// Beside 9 the lowest missing flag by its bit, or 33 where none is missing; otherwise 0.
+    pub lowest: u32,
+}
+
 /// What a start gives.
 #[derive(Clone, Copy, Debug)]
 #[repr(C)]
@@ -44,6 +56,10 @@ pub struct bks_answered {
     pub ended: u32,
     /// How many output bytes were written.
     pub written: usize,
+    /// Beside 9 how many required flags are missing; otherwise 0.
+    pub missing: u32,
+    /// Beside 9 the lowest missing flag by its bit, or 33 where none is missing; otherwise 0.
+    pub lowest: u32,
 }
 
 /// What is recorded in a slot.
@@ -79,7 +95,7 @@ pub struct bks_own {
 }
 
 extern "C" {
-    /// Makes an endpoint at `e`. 0, or the refusal's number, and then nothing is written.
+    /// Makes an endpoint at `e`. If that is refused, nothing is written.
     ///
     /// # Safety
     /// `e` must be writable, and may hold anything before; `name` as said at the head of this
@@ -90,7 +106,7 @@ extern "C" {
         name_len: usize,
         flags: u64,
         creation: u32,
-    ) -> u32;
+    ) -> bks_made;
 
     /// Begins a handshake as initiator.
     ///

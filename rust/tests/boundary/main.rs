@@ -5,6 +5,7 @@
 mod common;
 
 mod client;
+mod flags;
 mod numbers;
 mod sizes;
 
@@ -31,10 +32,8 @@ fn raw_endpoint() -> Box<bks_endpoint> {
     // SAFETY: the name is a slice, and the call writes the state, which the assertion sees.
     unsafe {
         let at = state.as_mut_ptr();
-        assert_eq!(
-            ffi::bks_endpoint_new(at, name.as_ptr(), name.len(), GOOD_FLAGS, 7),
-            0
-        );
+        let made = ffi::bks_endpoint_new(at, name.as_ptr(), name.len(), GOOD_FLAGS, 7);
+        assert_eq!(made.refusal, 0);
         state.assume_init()
     }
 }
@@ -69,7 +68,8 @@ fn null_is_an_empty_run_for_the_endpoint() {
     let e: *mut bks_endpoint = &mut *state;
     // SAFETY: the state is an endpoint; each run is `out`, or empty.
     unsafe {
-        assert_eq!(ffi::bks_endpoint_new(e, null(), 0, GOOD_FLAGS, 7), 6);
+        let made = ffi::bks_endpoint_new(e, null(), 0, GOOD_FLAGS, 7);
+        assert_eq!(made.refusal, 6);
         assert_eq!(ffi::bks_endpoint_start(e, null(), 0, at, room).refusal, 6);
         assert_eq!(
             ffi::bks_endpoint_start(e, null(), 0, null_mut(), 0).refusal,
@@ -94,10 +94,14 @@ fn a_refused_making_writes_nothing() {
     // SAFETY: the memory is of a registry's and an endpoint's size, and the calls are refused.
     unsafe {
         assert_eq!(ffi::bks_registry_new(at.cast(), 4369, 0), 17);
-        assert_eq!(
-            ffi::bks_endpoint_new(at.cast(), b"a@b".as_ptr(), 3, 0, 1),
-            9
-        );
+        for (name, flags, refusal) in [
+            (b"a@b", 0, 9),
+            (b"a@b", GOOD_FLAGS | 1 << 33, 9),
+            (b"abc", GOOD_FLAGS, 6),
+        ] {
+            let made = ffi::bks_endpoint_new(at.cast(), name.as_ptr(), 3, flags, 1);
+            assert_eq!(made.refusal, refusal);
+        }
     }
     assert!(memory.iter().all(|word| *word == 0xa5a5_a5a5_a5a5_a5a5));
 }

@@ -35,10 +35,8 @@ fn endpoint() {
     // SAFETY: the memory has room for the state and more.
     let written = written(ENDPOINT_SIZE, |memory| unsafe {
         let name = b"a@b".as_ptr();
-        assert_eq!(
-            ffi::bks_endpoint_new(memory.cast(), name, 3, GOOD_FLAGS, 0x0102_0304),
-            0
-        );
+        let made = ffi::bks_endpoint_new(memory.cast(), name, 3, GOOD_FLAGS, 0x0102_0304);
+        assert_eq!(made.refusal, 0);
     });
     assert_eq!(written, (0..ENDPOINT_SIZE).collect::<Vec<usize>>());
 }

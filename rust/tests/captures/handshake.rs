@@ -6,6 +6,7 @@ use birkenschuh::{
 
 use crate::common::frames::{frame, reply, GOOD_FLAGS};
 use crate::common::from_hex;
+use crate::flags;
 use crate::seen::{all, seen, Seen, HANDSHAKES};
 use crate::text;
 
@@ -22,14 +23,10 @@ fn freed(refusal: Refusal) -> Result<Answered, Refused> {
     })
 }
 
-fn are_good(flags: u64) -> bool {
-    flags & (GOOD_FLAGS | 1 << 33) == GOOD_FLAGS
-}
-
-/// Every name message is read, and its fields recorded; what 01 refuses is refused.
+/// Every name message is read, and its fields recorded; what the papers refuse is refused.
 #[test]
 fn name_messages_are_read_field_by_field() {
-    let (mut read, mut refused) = (0, 0);
+    let (mut read, mut bad_name, mut bad_flags) = (0, 0, 0);
     for seen in all("send_name") {
         let mut endpoint = Endpoint::new(b"acceptor@host", GOOD_FLAGS, 1).unwrap();
         let slot = endpoint.arrive().unwrap();
@@ -37,17 +34,17 @@ fn name_messages_are_read_field_by_field() {
         let answer = endpoint.message(slot, &seen.frame, 9, COOKIES, &mut out);
         if !seen.name().contains(&b'@') {
             assert_eq!(answer, freed(Refusal::BadName), "{}", seen.note);
-            refused += 1;
-        } else if !are_good(seen.flags()) {
-            assert_eq!(answer, freed(Refusal::BadFlags), "{}", seen.note);
-            refused += 1;
+            bad_name += 1;
+        } else if let Some(refusal) = flags::refusal(&seen) {
+            assert_eq!(answer, freed(refusal), "{}", seen.note);
+            bad_flags += 1;
         } else {
             assert_eq!(answer.unwrap().stage, Stage::AwaitsReply, "{}", seen.note);
             assert_eq!(endpoint.slot(slot), recorded(&seen, Stage::AwaitsReply));
             read += 1;
         }
     }
-    assert_eq!((read, refused), (30, 18));
+    assert_eq!((read, bad_name, bad_flags), (31, 11, 20));
 }
 
 /// What a slot holds once the message is read and our challenge, 9, is sent.
@@ -74,8 +71,8 @@ fn challenge_messages_are_read_field_by_field() {
             .message(slot, b"\x00\x03sok", 0, COOKIES, &mut out)
             .unwrap();
         let answer = endpoint.message(slot, &seen.frame, 9, COOKIES, &mut out);
-        if !are_good(seen.flags()) {
-            assert_eq!(answer, freed(Refusal::BadFlags), "{}", seen.note);
+        if let Some(refusal) = flags::refusal(&seen) {
+            assert_eq!(answer, freed(refusal), "{}", seen.note);
             refused += 1;
             continue;
         }
@@ -85,49 +82,62 @@ fn challenge_messages_are_read_field_by_field() {
         assert_eq!(endpoint.slot(slot), recorded(&seen, Stage::AwaitsAck));
         read += 1;
     }
-    assert_eq!((read, refused), (18, 7));
+    assert_eq!((read, refused), (31, 8));
 }
 
-/// A real initiator and a real acceptor: each side's frames, digests apart, are what an endpoint of
-/// the same name, flags, creation and challenge sends.
+/// A real initiator and a real acceptor, or one of them and a program: each side's frames, digests
+/// apart, are what an endpoint of the same name, flags, creation and challenge sends.
 #[test]
 fn our_frames_are_those_of_real_nodes() {
+    let mut handshakes = 0;
     for file in [
         "hs_01_b_connects_to_a",
         "hs_03_hidden_b_to_a",
         "hs_04_wrong_cookie",
+        "door_01_handshakes",
     ] {
-        let [name, status, challenge, reply] =
+        let [names, statuses, challenges, replies] =
             ["send_name", "status", "send_challenge", "challenge_reply"]
-                .map(|kind| seen(file, kind).remove(0));
-        let (mut from_a, mut from_b) = ([0; ENDPOINT_OUTPUT], [0; ENDPOINT_OUTPUT]);
-        let (mut a, mut b) = (endpoint_of(&challenge), endpoint_of(&name));
-
-        let written = b.start(challenge.name(), &mut from_b).unwrap().written;
-        assert_eq!(from_b[..written], name.frame);
-        a.arrive().unwrap();
-        let lent = challenge.number("challenge");
-        let answer = a
-            .message(0, &name.frame, lent, COOKIES, &mut from_a)
-            .unwrap();
-        let expected = [&status.frame[..], &challenge.frame].concat();
-        assert_eq!(from_a[..answer.written], expected);
-
-        b.message(0, &status.frame, 0, COOKIES, &mut from_b)
-            .unwrap();
-        let lent = reply.number("challenge");
-        let answer = b
-            .message(0, &challenge.frame, lent, COOKIES, &mut from_b)
-            .unwrap();
-        assert_eq!(answer.written, reply.frame.len());
-        assert_eq!(from_b[..7], reply.frame[..7]);
-        let answer = a
-            .message(0, &from_b[..answer.written], 0, COOKIES, &mut from_a)
-            .unwrap();
-        assert_eq!(answer.stage, Stage::Connected);
+                .map(|kind| seen(file, kind));
         let acks = seen(file, "challenge_ack");
-        assert!(acks.iter().all(|ack| ack.frame[..3] == from_a[..3]));
+        for (at, name) in names.iter().enumerate() {
+            follow(
+                [name, &statuses[at], &challenges[at], &replies[at]],
+                acks.get(at),
+            );
+            handshakes += 1;
+        }
     }
+    assert_eq!(handshakes, 3 + 12);
+}
+
+/// One handshake of both sides: name, status, challenge, reply, and the acknowledgement if there is one.
+fn follow([name, status, challenge, reply]: [&Seen; 4], ack: Option<&Seen>) {
+    let (mut from_a, mut from_b) = ([0; ENDPOINT_OUTPUT], [0; ENDPOINT_OUTPUT]);
+    let (mut a, mut b) = (endpoint_of(challenge), endpoint_of(name));
+
+    let written = b.start(challenge.name(), &mut from_b).unwrap().written;
+    assert_eq!(from_b[..written], name.frame);
+    a.arrive().unwrap();
+    let lent = challenge.number("challenge");
+    let answer = a
+        .message(0, &name.frame, lent, COOKIES, &mut from_a)
+        .unwrap();
+    let expected = [&status.frame[..], &challenge.frame].concat();
+    assert_eq!(from_a[..answer.written], expected);
+
+    b.message(0, &status.frame, 0, COOKIES, &mut from_b)
+        .unwrap();
+    let lent = reply.number("challenge");
+    let answer = b
+        .message(0, &challenge.frame, lent, COOKIES, &mut from_b)
+        .unwrap();
+    assert_eq!(answer.written, reply.frame.len());
+    assert_eq!(from_b[..7], reply.frame[..7]);
+    let sent = &from_b[..answer.written];
+    let answer = a.message(0, sent, 0, COOKIES, &mut from_a).unwrap();
+    assert_eq!(answer.stage, Stage::Connected);
+    assert!(ack.iter().all(|ack| ack.frame[..3] == from_a[..3]));
 }
 
 /// An endpoint with the name, flags and creation of a node that was seen.
@@ -156,7 +166,7 @@ fn digests_of_real_nodes_have_the_other_order() {
             differs += u32::from(!is_equal);
         }
     }
-    assert_eq!((equal, differs), (46, 2));
+    assert_eq!((equal, differs), (74, 2));
 
     let (name, reply) = (all("send_name").remove(0), all("challenge_reply").remove(0));
     let challenge = all("send_challenge").remove(0).number("challenge");

@@ -9,6 +9,7 @@
 mod common;
 
 mod client;
+mod flags;
 mod handshake;
 mod mapper;
 mod seen;

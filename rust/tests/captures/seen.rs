@@ -3,7 +3,7 @@
 use crate::common::from_hex;
 use crate::text;
 
-pub const HANDSHAKES: [&str; 9] = [
+pub const HANDSHAKES: [&str; 11] = [
     "hs_01_b_connects_to_a",
     "hs_03_hidden_b_to_a",
     "hs_04_wrong_cookie",
@@ -13,6 +13,8 @@ pub const HANDSHAKES: [&str; 9] = [
     "hs_30_dynamic_python_initiator",
     "traffic_01_no_atom_cache",
     "traffic_04_p3_flags_plus_26",
+    "door_01_handshakes",
+    "door_07_nameless",
 ];
 
 /// A handshake message with the comment that says what it is.

@@ -1,6 +1,7 @@
 //! Runs sequences of calls through the library and the model, and shows one where they differ.
 
 use std::fmt::Display;
+use std::panic::{catch_unwind, AssertUnwindSafe};
 use std::str::FromStr;
 
 use super::tally::Tally;
@@ -15,13 +16,20 @@ pub trait Compared: Default {
     fn apply(&mut self, call: &Self::Call, tally: &mut Tally) -> Result<(), String>;
 }
 
+/// [`Compared::apply`], where a panic is a difference too: what the wrapper takes for impossible ends
+/// in one.
+pub fn attempt<C: Compared>(pair: &mut C, call: &C::Call, tally: &mut Tally) -> Result<(), String> {
+    let applied = catch_unwind(AssertUnwindSafe(|| pair.apply(call, tally)));
+    applied.unwrap_or_else(|_| Err("a panic, as said above".to_string()))
+}
+
 /// What differs at the end of these calls, if anything.
 fn difference<C: Compared>(calls: &[C::Call]) -> Option<String> {
     let mut pair = C::default();
     let mut tally = Tally::default();
     calls
         .iter()
-        .find_map(|call| pair.apply(call, &mut tally).err())
+        .find_map(|call| attempt(&mut pair, call, &mut tally).err())
 }
 
 /// Leaves out calls as long as the rest still shows a difference.

@@ -2,8 +2,8 @@
 
 use super::rng::Rng;
 
-/// Flags with the bits that 01 requires.
-pub const GOOD_FLAGS: u64 = 0x100_0104;
+/// Flags with the bits that 02 requires, and no others.
+pub const GOOD_FLAGS: u64 = 0x4_0300_0104;
 
 /// A body behind its length.
 pub fn frame(body: &[u8]) -> Vec<u8> {

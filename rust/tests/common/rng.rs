@@ -60,6 +60,12 @@ pub fn seed() -> u64 {
     number("BIRKENSCHUH_SEED").unwrap_or(20_261_116)
 }
 
+/// The seed of a run's sequence of this number. The run's own seed is spread first, or neighbouring
+/// seeds would run the same sequences in another order.
+pub fn sequence_seed(run: u64, number: u64) -> u64 {
+    Rng(Rng(run).next() ^ number).next()
+}
+
 fn number(variable: &str) -> Option<u64> {
     let text = std::env::var(variable).ok()?;
     Some(

@@ -1,4 +1,4 @@
-//! Sequences that go straight to a border: of a length, a number, a set of bits.
+//! Sequences that go straight to a border: of a length or a number.
 
 use birkenschuh::Stage;
 
@@ -51,32 +51,6 @@ fn cuts() {
             2 * not_frames
         );
     }
-}
-
-/// Each required bit cleared, and each other bit set, in both messages and in the making.
-#[test]
-fn flags() {
-    let each = (0..64).map(|bit| GOOD_FLAGS ^ (1 << bit));
-    let names = each.clone().map(|flags| name_message(flags, 1, PEER));
-    assert_eq!(
-        run(then(Stage::AwaitsName, names)).times("AwaitsName: refusal 9"),
-        2 * 4
-    );
-    let challenges = each
-        .clone()
-        .map(|flags| challenge_message(flags, 1, 1, PEER));
-    let tally = run(then(Stage::AwaitsChallenge, challenges));
-    assert_eq!(tally.times("AwaitsChallenge: refusal 9"), 2 * 4);
-    let raw = true;
-    let made = each.map(|flags| {
-        vec![Call::New {
-            raw,
-            name: OWN.to_vec(),
-            flags,
-            creation: 1,
-        }]
-    });
-    assert_eq!(run(made).times("new, raw: refusal 9"), 2 * 4);
 }
 
 /// Full names of each length around the rule's borders, and each place for the "@".

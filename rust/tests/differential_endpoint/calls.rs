@@ -98,7 +98,7 @@ impl FromStr for Call {
 #[test]
 fn a_call_is_read_as_it_is_written() {
     for line in [
-        "new false 614062 16777476 7",
+        "new false 614062 17230201092 7",
         "start 634064 300",
         "arrive",
         "close 31",

@@ -1,12 +1,15 @@
 //! An endpoint through the safe wrapper or through the functions over pointers.
 
-use std::mem::MaybeUninit;
 use std::ptr::{null, null_mut};
 
 use birkenschuh::ffi::{self, bks_endpoint};
-use birkenschuh::{Answered, Cookies, Endpoint, Own, Refusal, Slot, Stage, Started, SLOTS};
+use birkenschuh::{Cookies, Endpoint, Own, Refusal, Slot, Stage, Started, ENDPOINT_SIZE};
 
 use crate::calls::Message;
+use crate::told::{Made, Told};
+
+/// What lies in memory before an endpoint is made there.
+const PATTERN: [u8; ENDPOINT_SIZE] = [0xa5; ENDPOINT_SIZE];
 
 pub enum Face {
     Safe(Endpoint),
@@ -37,20 +40,22 @@ fn unless<T>(refusal: u32, value: T) -> Result<T, u32> {
 }
 
 impl Face {
-    pub fn new(raw: bool, name: &[u8], flags: u64, creation: u32) -> Result<Face, u32> {
+    /// An endpoint, unless that is refused, and what was told.
+    pub fn new(raw: bool, name: &[u8], flags: u64, creation: u32) -> (Option<Face>, Made) {
         if !raw {
             let made = Endpoint::new(name, flags, creation);
-            return made.map(Face::Safe).map_err(Refusal::number);
+            let told = Made::of(made.as_ref().map_err(|refusal| *refusal));
+            return (made.ok().map(Face::Safe), told);
         }
         let (name, name_len) = lend(name);
-        let mut state = Box::new(MaybeUninit::uninit());
-        // SAFETY: the state is written where the call is not refused, and read only then.
-        unsafe {
-            match ffi::bks_endpoint_new(state.as_mut_ptr(), name, name_len, flags, creation) {
-                0 => Ok(Face::Raw(state.assume_init())),
-                refusal => Err(refusal),
-            }
-        }
+        let mut state = Box::new(bks_endpoint { bytes: PATTERN });
+        // SAFETY: the state is memory of an endpoint's size; the name is a slice, or empty.
+        let told = unsafe { ffi::bks_endpoint_new(&mut *state, name, name_len, flags, creation) };
+        let made = Made {
+            numbers: told.into(),
+            wrote: state.bytes != PATTERN,
+        };
+        ((told.refusal == 0).then_some(Face::Raw(state)), made)
     }
 
     pub fn start(&mut self, name: &[u8], out: &mut [u8]) -> Result<Started, u32> {
@@ -92,8 +97,7 @@ impl Face {
         }
     }
 
-    /// Beside a refusal, whether the slot was freed.
-    pub fn message(&mut self, message: &Message, out: &mut [u8]) -> Result<Answered, (u32, bool)> {
+    pub fn message(&mut self, message: &Message, out: &mut [u8]) -> Told {
         let Message {
             slot,
             frame,
@@ -105,8 +109,9 @@ impl Face {
         let state = match self {
             Face::Safe(endpoint) => {
                 let cookies = Cookies { own, standard };
-                let answer = endpoint.message(*slot, frame, *challenge, cookies, out);
-                return answer.map_err(|refused| (refused.refusal.number(), refused.slot_freed));
+                return endpoint
+                    .message(*slot, frame, *challenge, cookies, out)
+                    .into();
             }
             Face::Raw(state) => &mut **state,
         };
@@ -120,19 +125,7 @@ impl Face {
                 state, slot, frame, frame_len, challenge, own, own_len, standard, standard_len, out, out_len,
             )
         };
-        let is_nothing = (told.written, told.stage, told.freed) == (0, 0, 32);
-        assert!(told.refusal == 0 || is_nothing, "told beside a refusal");
-        assert!(told.ended < 2);
-        let ended = told.ended == 1;
-        if told.refusal != 0 {
-            return Err((told.refusal, ended));
-        }
-        assert_eq!(ended, told.stage == 0, "an answer that frees the slot");
-        Ok(Answered {
-            stage: Stage::ALL[told.stage as usize],
-            freed: (told.freed as usize != SLOTS).then_some(told.freed as usize),
-            written: told.written,
-        })
+        told.into()
     }
 
     /// The endpoint as it lies in memory.

@@ -11,13 +11,44 @@ pub fn good_flags(rng: &mut Rng) -> u64 {
     }
 }
 
-/// Now and then without a required bit, or with bit 33.
+/// The bits that 02 requires, lowest first.
+pub const REQUIRED: [u32; 5] = [2, 8, 24, 25, 34];
+
+/// Every set of required bits.
+pub fn required_sets() -> impl Iterator<Item = Vec<u32>> {
+    let is_in = |set: u32, at: usize| set >> at & 1 == 1;
+    let bits = move |set| {
+        (0..5)
+            .filter(move |at| is_in(set, *at))
+            .map(|at| REQUIRED[at])
+    };
+    (0..32).map(move |set| bits(set).collect())
+}
+
+/// The required bits but those missing, bit 33 or not, and all else as in `others`.
+pub fn flags_without(missing: &[u32], name_me: bool, others: u64) -> u64 {
+    let missing: u64 = missing.iter().map(|bit| 1 << bit).sum();
+    let whole = (others | GOOD_FLAGS) & !(1 << 33) & !missing;
+    whole | u64::from(name_me) << 33
+}
+
+/// Some required bits missing, with bit 33 or without; now and then bit 33 alone.
+pub fn bad_flags(rng: &mut Rng) -> u64 {
+    let some = rng.next();
+    let others = *rng.pick(&[0, !0, some]);
+    if rng.below(16) == 0 {
+        return flags_without(&[], true, others);
+    }
+    let missing = required_sets().nth(1 + rng.below(31)).expect("32 sets");
+    flags_without(&missing, rng.chance(50), others)
+}
+
+/// Now and then bad ones.
 pub fn flags(rng: &mut Rng) -> u64 {
-    let good = good_flags(rng);
-    match rng.below(60) {
-        0 => good ^ (1 << *rng.pick(&[2, 8, 24])),
-        1 => good ^ (1 << 33),
-        _ => good,
+    if rng.below(8) == 0 {
+        bad_flags(rng)
+    } else {
+        good_flags(rng)
     }
 }
 

@@ -7,7 +7,7 @@ use model::{digest, Stage};
 use crate::calls::{Call, Message};
 use crate::common::frames::*;
 use crate::common::rng::Rng;
-use crate::fields::{broken_name, flags, full_name, good_flags, near};
+use crate::fields::{bad_flags, broken_name, flags, full_name, good_flags, near};
 
 /// Status words that move an initiator on, and others.
 const STATUS: [&[u8]; 3] = [b"ok", b"ok_simultaneous", b"alive"];
@@ -71,8 +71,12 @@ impl Generator {
     }
 
     pub fn first(&self, rng: &mut Rng) -> Call {
+        self.made_with(rng, good_flags)
+    }
+
+    fn made_with(&self, rng: &mut Rng, flags: fn(&mut Rng) -> u64) -> Call {
         let name = self.own_name.clone();
-        let flags = good_flags(rng);
+        let flags = flags(rng);
         Call::New {
             raw: rng.chance(50),
             name,
@@ -82,8 +86,10 @@ impl Generator {
     }
 
     pub fn call(&self, rng: &mut Rng, model: &model::Endpoint) -> Call {
-        if rng.below(500) == 0 {
-            return self.remake(rng);
+        match rng.below(500) {
+            0 => return self.remake(rng),
+            1..=5 => return self.made_with(rng, bad_flags),
+            _ => (),
         }
         if rng.chance(self.closes) {
             // Connected slots too, or in the end every peer has one.

@@ -8,20 +8,27 @@ mod borders;
 mod calls;
 mod face;
 mod fields;
+mod flags;
 mod generate;
 mod pair;
 mod reach;
 mod rules;
+mod told;
+
+use std::collections::HashSet;
 
 use calls::Call;
-use common::differ::{report, Compared};
-use common::rng::{rounds, seed, Rng};
+use common::differ::{attempt, report};
+use common::rng::{rounds, seed, sequence_seed, Rng};
 use common::tally::Tally;
 use generate::Generator;
 use pair::Pair;
 
 /// Besides these there are starts, arrivals and closes.
 const MESSAGES: u64 = 1_000_000;
+
+/// How many in a thousand refusals of flags must be of each flaw: there are 31, and the rarest has 15.
+const FLAW_SHARE: u64 = 5;
 
 /// All that 01 lets a call come to: every refusal at every stage that has it, every step.
 const EXPECTED: &str = "
@@ -60,7 +67,7 @@ AwaitsAck: refusal 5 | AwaitsAck: refusal 15
 AwaitsAck -> Connected
 ";
 
-fn expected() -> impl Iterator<Item = &'static str> {
+fn expected<'a>() -> impl Iterator<Item = &'a str> {
     let all = EXPECTED.split(['|', '\n']);
     all.map(str::trim).filter(|what| !what.is_empty())
 }
@@ -77,7 +84,7 @@ fn sequence(seed: u64, tally: &mut Tally) {
             None => generator.first(&mut rng),
             Some(model) => generator.call(&mut rng, model),
         });
-        if pair.apply(&calls[at], tally).is_err() {
+        if attempt(&mut pair, &calls[at], tally).is_err() {
             report::<Pair>(seed, calls);
         }
     }
@@ -90,13 +97,28 @@ fn random_sequences() {
     let mut tally = Tally::default();
     let mut sequences = 0;
     while tally.times("messages") < wanted {
-        sequence(Rng(first ^ sequences).next(), &mut tally);
+        sequence(sequence_seed(first, sequences), &mut tally);
         sequences += 1;
     }
     println!("seed {first}, {sequences} sequences");
     tally.print();
     tally.assert_seen(expected());
-    tally.assert_nothing_but(expected().chain(["calls", "messages"]));
+    let flaws = flags::flaws();
+    for (call, flaw) in &flaws {
+        tally.assert_share(flaw, FLAW_SHARE, call);
+    }
+    let flaws = flaws.iter().map(|(_, flaw)| flaw.as_str());
+    tally.assert_nothing_but(expected().chain(flaws).chain(["calls", "messages"]));
+}
+
+/// Otherwise trying a second seed would say nothing.
+#[test]
+fn another_seed_runs_other_sequences() {
+    let of = |run| (0..3_000).map(move |number| sequence_seed(run, number));
+    let first: HashSet<u64> = of(11).collect();
+    for run in [10, 12, 13, 11 ^ 1 << 40] {
+        assert!(of(run).all(|seed| !first.contains(&seed)), "{run}");
+    }
 }
 
 /// Runs the calls of the file that the variable `BIRKENSCHUH_REPLAY` names, or else a short sequence

@@ -1,11 +1,12 @@
 //! The library's endpoint beside the model's.
 
-use birkenschuh::{Answered, Own, Slot, Stage, Started, SLOTS};
+use birkenschuh::{Own, Slot, Stage, Started, SLOTS};
 
 use crate::calls::{Call, Message};
 use crate::common::differ::{outputs, same, states, Compared};
 use crate::common::tally::Tally;
 use crate::face::Face;
+use crate::told::{flaw, Made, Numbers, Told};
 
 /// Bytes behind the lent output, which nobody may touch.
 const GUARD: usize = 64;
@@ -83,12 +84,16 @@ impl Pair {
         else {
             return Ok(());
         };
-        let ours = Face::new(*raw, name, *flags, *creation);
-        let expected = number(model::Endpoint::new(name, *flags, *creation));
-        same("the refusal", ours.as_ref().err(), expected.as_ref().err())?;
+        let (ours, told) = Face::new(*raw, name, *flags, *creation);
+        let expected = model::Endpoint::new(name, *flags, *creation);
+        let told_expected = Made::of(expected.as_ref().map_err(|refusal| *refusal));
+        same("the answer", told, told_expected)?;
         let what = if *raw { "new, raw" } else { "new, safe" };
-        tally.count(named(what, ours.as_ref().map_err(|refusal| *refusal)));
-        if let (Ok(ours), Ok(expected)) = (ours, expected) {
+        match told.numbers.refusal {
+            0 => tally.count(what),
+            _ => count_refusal(what, told.numbers, *flags, tally),
+        }
+        if let (Some(ours), Ok(expected)) = (ours, expected) {
             self.state = Some((ours, expected));
             self.own = Some(Own {
                 name: name.clone(),
@@ -138,20 +143,19 @@ impl Pair {
         } else {
             Stage::Free
         };
-        let answer = ours.message(message, &mut self.ours[..*room]);
+        let told = ours.message(message, &mut self.ours[..*room]);
         let cookies = model::Cookies { own, standard };
         let out = &mut self.expected[..*room];
-        let told = number(expected.message(*slot, frame, *challenge, cookies, out));
-        let told = told.map(|told| Answered {
-            stage: stage(told.stage),
-            freed: told.freed,
-            written: told.written,
-        });
-        let freed = before != Stage::Free && stage(expected.slot(*slot).stage) == Stage::Free;
-        same("the answer", answer, told.map_err(|number| (number, freed)))?;
-        match answer {
-            Ok(told) => count(before, told, &self.expected, tally),
-            Err((refusal, _)) => tally.count(format!("{before:?}: refusal {refusal}")),
+        let answer = expected.message(*slot, frame, *challenge, cookies, out);
+        let ended = before != Stage::Free && stage(expected.slot(*slot).stage) == Stage::Free;
+        let told_expected = match answer {
+            Ok(told) => Told::answered(stage(told.stage), told.freed, told.written),
+            Err(refusal) => Told::refused(refusal, ended),
+        };
+        same("the answer", told, told_expected)?;
+        match told.numbers.refusal {
+            0 => count(before, told, &self.expected, tally),
+            _ => count_refusal(&format!("{before:?}"), told.numbers, flags(frame), tally),
         }
         outputs(&self.ours, &self.expected)
     }
@@ -184,14 +188,29 @@ impl Pair {
 }
 
 /// Counts the step from stage to stage, with the status word that was sent.
-fn count(before: Stage, told: Answered, out: &[u8], tally: &mut Tally) {
-    let mut what = format!("{before:?} -> {:?}", told.stage);
+fn count(before: Stage, told: Told, out: &[u8], tally: &mut Tally) {
+    let mut what = format!("{before:?} -> {:?}", Stage::ALL[told.stage as usize]);
     if told.written > 0 && out[2] == b's' {
         let length = usize::from(out[1]);
         what += &format!(", sent {}", out[3..2 + length].escape_ascii());
     }
-    if told.freed.is_some() {
+    if told.freed != SLOTS {
         what += ", another freed";
     }
     tally.count(what);
+}
+
+/// Counts a refusal; 9 also by what is wrong with the flags.
+fn count_refusal(what: &str, numbers: Numbers, flags: u64, tally: &mut Tally) {
+    let what = format!("{what}: refusal {}", numbers.refusal);
+    if numbers.refusal == 9 {
+        tally.count(format!("{what}, {}", flaw(numbers, flags)));
+    }
+    tally.count(what);
+}
+
+/// The flags of a name or challenge message.
+fn flags(frame: &[u8]) -> u64 {
+    let field = frame.get(3..11).and_then(|field| field.try_into().ok());
+    field.map_or(0, u64::from_be_bytes)
 }

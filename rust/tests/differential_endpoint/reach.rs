@@ -4,7 +4,7 @@ use birkenschuh::{Stage, ENDPOINT_OUTPUT};
 use model::digest;
 
 use crate::calls::{Call, Message};
-use crate::common::differ::{report, Compared};
+use crate::common::differ::{attempt, report};
 use crate::common::frames::*;
 use crate::common::tally::Tally;
 use crate::pair::Pair;
@@ -119,7 +119,7 @@ pub fn run(lists: impl IntoIterator<Item = Vec<Call>>) -> Tally {
             let mut all = [vec![made], calls.clone()].concat();
             let mut pair = Pair::default();
             for at in 0..all.len() {
-                if pair.apply(&all[at], &mut tally).is_err() {
+                if attempt(&mut pair, &all[at], &mut tally).is_err() {
                     all.truncate(at + 1);
                     report::<Pair>(0, all);
                 }

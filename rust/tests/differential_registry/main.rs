@@ -14,7 +14,7 @@ mod situation;
 
 use calls::Call;
 use common::differ::{report, Compared};
-use common::rng::{rounds, seed, Rng};
+use common::rng::{rounds, seed, sequence_seed, Rng};
 use common::tally::Tally;
 use generate::Generator;
 use pair::Pair;
@@ -76,7 +76,7 @@ fn random_sequences() {
     let mut tally = Tally::default();
     let mut sequences = 0;
     while tally.times("requests") < wanted {
-        sequence(Rng(first ^ sequences).next(), &mut tally);
+        sequence(sequence_seed(first, sequences), &mut tally);
         sequences += 1;
     }
     println!("seed {first}, {sequences} sequences");

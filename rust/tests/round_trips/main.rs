@@ -10,7 +10,7 @@ mod trip;
 
 use calls::Call;
 use common::differ::{report, Compared};
-use common::rng::{rounds, seed, Rng};
+use common::rng::{rounds, seed, sequence_seed, Rng};
 use common::tally::Tally;
 use generate::Generator;
 use trip::Trip;
@@ -63,7 +63,7 @@ fn random_sequences() {
     let first = seed();
     let mut tally = Tally::default();
     for number in 0..SEQUENCES * rounds() {
-        sequence(Rng(first ^ number).next(), &mut tally);
+        sequence(sequence_seed(first, number), &mut tally);
     }
     println!("seed {first}");
     tally.print();

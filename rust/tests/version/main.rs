@@ -62,15 +62,15 @@ fn another_version_is_told_before_a_state_or_such_a_call_is_made() {
     for (other, says) in [
         (
             "abi",
-            "boundary version 2, with states of 25670 and 9004 bytes",
+            "boundary version 1, with states of 25670 and 9004 bytes",
         ),
         (
             "registry",
-            "boundary version 1, with states of 25864 and 9004 bytes",
+            "boundary version 2, with states of 25864 and 9004 bytes",
         ),
         (
             "endpoint",
-            "boundary version 1, with states of 25670 and 9232 bytes",
+            "boundary version 2, with states of 25670 and 9232 bytes",
         ),
     ] {
         for asked in STATES.into_iter().chain(CALLS) {

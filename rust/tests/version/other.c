@@ -9,7 +9,7 @@ static int other(const char *what) {
     return said != NULL && strcmp(said, what) == 0;
 }
 
-uint32_t bks_abi(void) { return other("abi") ? 2 : 1; }
+uint32_t bks_abi(void) { return other("abi") ? 1 : 2; }
 size_t bks_registry_size(void) { return other("registry") ? 25864 : 25670; }
 size_t bks_endpoint_size(void) { return other("endpoint") ? 9232 : 9004; }
 

@@ -14,6 +14,10 @@ const TIME: Duration = Duration::from_secs(30);
 const STAYING: u16 = 32;
 const REGISTERING: usize = 16;
 
+/// How much more memory, in KiB, the mapper may have at the end: at each of the two moments some long
+/// frames lie there half read. Twenty bytes kept of each visit would be more.
+const UNEVEN: u64 = 1024;
+
 /// Numbers without much order, enough to mix the clients (xorshift).
 struct Mixed(u64);
 
@@ -100,7 +104,7 @@ fn a_crowd_of_200_loses_no_name_and_costs_no_memory() {
     println!("{visits} visits in {time} s, memory {before} KiB after 5 s, {after} KiB at the end");
     assert!(visits > 10_000, "hardly a crowd");
     assert!(
-        after <= before + 256,
+        after <= before + UNEVEN,
         "memory grew from {before} to {after} KiB"
     );
     eventually("all visitors are gone", || {

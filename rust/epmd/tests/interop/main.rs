@@ -1,6 +1,6 @@
-//! Against Erlang/OTP: real nodes on this mapper, the same requests to it and to the real epmd, and
-//! a crowd of clients. `make check-interop` runs these; a plain `cargo test` does not, since they
-//! need `erl` and `epmd`.
+//! Against Erlang/OTP: real nodes on this mapper, the same requests to it and to the real epmd, a
+//! crowd of clients, and the flags in handshakes with real nodes. `make check-interop` runs these; a
+//! plain `cargo test` does not, since they need `erl` and `epmd`.
 
 #[path = "../support/mod.rs"]
 mod support;
@@ -9,6 +9,8 @@ mod asking;
 mod cases;
 mod crowd;
 mod differences;
+mod flags;
+mod joined;
 mod node;
 mod nodes;
 mod restart;

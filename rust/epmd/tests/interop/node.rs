@@ -58,7 +58,17 @@ impl Node {
 
     /// The value of an expression, as Erlang prints it.
     pub fn eval(&mut self, expression: &str) -> String {
+        self.begin(expression);
+        self.end(expression)
+    }
+
+    /// Begins with an expression whose value takes something that the test has to do meanwhile.
+    pub fn begin(&mut self, expression: &str) {
         self.process.write_line(expression);
+    }
+
+    /// Its value.
+    pub fn end(&mut self, expression: &str) -> String {
         let answer = |process: &Process, at: usize| {
             let lines = process.lines();
             let mut values = lines.iter().filter_map(|line| line.strip_prefix("=> "));

@@ -1,8 +1,6 @@
 use Prim.Native.Nat.{ℕ}
-use mathlib.Core.Path.{sym, _∙_, ap, ap₂}
-use mathlib.Core.Bool.{Bool}
-use Rattle.handshake_rules.specs.Answers.{tells, noSlot}
-use Rattle.birkenschuh.specs.Endpoint.{crossing, answers, toldOf}
+use mathlib.Core.Path.{sym, _∙_, ap}
+use Rattle.birkenschuh.specs.Endpoint.{answers, toldOf}
 use borrow.Author.Needs.{needs}
 use Rattle.birkenschuh.proofs.numbers.numbers_of.Statement.{statement}
 use Rattle.birkenschuh.proofs.numbers.numbers_of.Tie as tie
@@ -10,41 +8,32 @@ use Rattle.birkenschuh.proofs.numbers.numbers_of.Tie as tie
 enum-known-a : tie.Need-enum-known-a
 enum-known-a c = search needs
 
-number-requires : tie.Need-number-requires
-number-requires c κs = search needs
-
-cast-tell : tie.Need-cast-tell
-cast-tell c = search needs
-
-frees-requires : tie.Need-frees-requires
-frees-requires c κs = search needs
-
-tell-requires : tie.Need-tell-requires
-tell-requires c κs = search needs
+refuse-requires : tie.Need-refuse-requires
+refuse-requires c κs = search needs
 
 enum-known-a-2 : tie.Need-enum-known-a-2
 enum-known-a-2 c = search needs
 
-tell-requires-2 : tie.Need-tell-requires-2
-tell-requires-2 c κs = search needs
+tell-requires : tie.Need-tell-requires
+tell-requires c κs = search needs
 
 enum-known-a-3 : tie.Need-enum-known-a-3
 enum-known-a-3 c = search needs
 
-tell-requires-3 : tie.Need-tell-requires-3
-tell-requires-3 c κs = search needs
+tell-requires-2 : tie.Need-tell-requires-2
+tell-requires-2 c κs = search needs
 
 enum-told : tie.Need-enum-told
 enum-told c = search needs
 
-tell-requires-4 : tie.Need-tell-requires-4
-tell-requires-4 c κs = search needs
+tell-requires-3 : tie.Need-tell-requires-3
+tell-requires-3 c κs = search needs
 
 enum-known-a-4 : tie.Need-enum-known-a-4
 enum-known-a-4 c = search needs
 
-number-requires-2 : tie.Need-number-requires-2
-number-requires-2 c κs = search needs
+number-requires : tie.Need-number-requires
+number-requires c κs = search needs
 
 cast-answered : tie.Need-cast-answered
 cast-answered c = search needs
@@ -54,26 +43,24 @@ answered-requires c κs = search needs
 
 returns : tie.Need-returns
 unfolding toldOf
-returns c =
-    c .tell .ensures ∙ ap₂ (λ (n : ℕ) (b : Bool). crossing (tells n 0 0 noSlot 0) b) (c .before .before .number .ensures) (c .before .frees .ensures)
-    ∙ sym (ap toldOf (c .before .before .before .before .a .given .1))
+returns c = c .refuse .ensures ∙ sym (ap toldOf (c .before .before .a .given .1))
 
 returns-2 : tie.Need-returns-2
 unfolding toldOf
-returns-2 c = c .tell2 .ensures ∙ sym (ap toldOf (c .before .before .a2 .given .1))
+returns-2 c = c .tell .ensures ∙ sym (ap toldOf (c .before .before .a2 .given .1))
 
 returns-3 : tie.Need-returns-3
 unfolding toldOf
-returns-3 c = c .tell3 .ensures ∙ sym (ap toldOf (c .before .before .a3 .given .1))
+returns-3 c = c .tell2 .ensures ∙ sym (ap toldOf (c .before .before .a3 .given .1))
 
 returns-4 : tie.Need-returns-4
 unfolding toldOf
-returns-4 c = c .tell4 .ensures ∙ sym (ap toldOf (c .before .enum-told .given .1))
+returns-4 c = c .tell3 .ensures ∙ sym (ap toldOf (c .before .enum-told .given .1))
 
 returns-5 : tie.Need-returns-5
 unfolding toldOf
 returns-5 c =
-    c .answered .ensures ∙ ap (λ (s : ℕ). answers s (c .before .before .before .a4 .given .0 .1 .0) (c .before .before .before .a4 .given .0 .1 .1 .0)) (c .before .number2 .ensures)
+    c .answered .ensures ∙ ap (λ (s : ℕ). answers s (c .before .before .before .a4 .given .0 .1 .0) (c .before .before .before .a4 .given .0 .1 .1 .0)) (c .before .number .ensures)
     ∙ sym (ap toldOf (c .before .before .before .a4 .given .1))
 
 pub numbers-of-spec : {M : Type 1} → statement M
@@ -81,18 +68,15 @@ numbers-of-spec =
     tie.close
     (tie.spec
     enum-known-a
-    number-requires
-    cast-tell
-    frees-requires
-    tell-requires
+    refuse-requires
     enum-known-a-2
-    tell-requires-2
+    tell-requires
     enum-known-a-3
-    tell-requires-3
+    tell-requires-2
     enum-told
-    tell-requires-4
+    tell-requires-3
     enum-known-a-4
-    number-requires-2
+    number-requires
     cast-answered
     answered-requires
     returns

@@ -1,6 +1,8 @@
 use Rattle.handshake_rules.proofs.CheckLaws.{said-eq, said-ne, said-yes, said-no}
 use Rattle.handshake_rules.specs.Messages.{challengeL, challengeName}
-use Rattle.handshake_rules.specs.Flags.{goodFlags}
+use Rattle.handshake_rules.specs.Flags.{flagTest}
+use Rattle.handshake_rules.specs.Refusals.{checked}
+use Rattle.handshake_rules.specs.Forms.{flagTests}
 use Rattle.names.specs.Full.{fullName}
 use Rattle.wire.specs.Layout.{extent}
 use Rattle.wire.specs.Run.{part, sameBytes}
@@ -69,36 +71,21 @@ returns-5 c =
 get64-requires : tie.Need-get64-requires
 get64-requires c κs = search needs
 
-good-flags-requires : tie.Need-good-flags-requires
-good-flags-requires c κs = search needs
+check-flags-requires : tie.Need-check-flags-requires
+check-flags-requires c κs = search needs
 
 returns-6 : tie.Need-returns-6
 returns-6 c =
-    let b = c .before .before .before .before .before .before .before .before .before .before .before .before .before .before .before .args .body .now in
-    let p = c .before .before .before .before .before .before .before .before .before .before .before .before .before .before .before .args .peer .now in
-    let h : extent challengeL b ≤ length b = omega (arith, c .before .before .before .before .before .before .before .before .before .get16 .ensures, c .before .before .before .before .before .before .before .before .if3 .left) in
-    let n : c .before .before .before .before .before .before .before .get-part .result .now ≡ challengeName b = c .before .before .before .before .before .before .before .get-part .ensures ∙ ap (λ (k : ℕ). part 19 k b) (c .before .before .before .before .before .before .before .before .before .get16 .ensures) in
+    let b = c .before .before .before .before .before .before .before .before .before .before .before .before .before .before .args .body .now in
+    let p = c .before .before .before .before .before .before .before .before .before .before .before .before .before .before .args .peer .now in
+    let h : extent challengeL b ≤ length b = omega (arith, c .before .before .before .before .before .before .before .before .get16 .ensures, c .before .before .before .before .before .before .before .if3 .left) in
+    let n : c .before .before .before .before .before .before .get-part .result .now ≡ challengeName b = c .before .before .before .before .before .before .get-part .ensures ∙ ap (λ (k : ℕ). part 19 k b) (c .before .before .before .before .before .before .before .before .get16 .ensures) in
     rw (
-      said-eq 78 (c .before .before .before .before .before .before .before .before .before .before .before .before .get8 .ensures) (c .before .before .before .before .before .before .before .before .before .before .before .if1 .left),
+      said-eq 78 (c .before .before .before .before .before .before .before .before .before .before .before .get8 .ensures) (c .before .before .before .before .before .before .before .before .before .before .if1 .left),
       le-leb (extent challengeL b) (length b) h,
-      said-yes (c .before .before .before .before .before .before .is-full-name .ensures ∙ ap fullName n) (c .before .before .before .before .before .if4 .left),
-      said-yes (c .before .before .before .before .same-bytes .ensures ∙ ap (sameBytes p) n) (c .before .before .before .if5 .left),
-      said-no (c .before .good-flags .ensures ∙ ap goodFlags (c .before .before .get64 .ensures)) (c .if6 .taken),
-    )
-
-returns-7 : tie.Need-returns-7
-returns-7 c =
-    let b = c .before .before .before .before .before .before .before .before .before .before .before .before .before .before .before .args .body .now in
-    let p = c .before .before .before .before .before .before .before .before .before .before .before .before .before .before .before .args .peer .now in
-    let h : extent challengeL b ≤ length b = omega (arith, c .before .before .before .before .before .before .before .before .before .get16 .ensures, c .before .before .before .before .before .before .before .before .if3 .left) in
-    let n : c .before .before .before .before .before .before .before .get-part .result .now ≡ challengeName b = c .before .before .before .before .before .before .before .get-part .ensures ∙ ap (λ (k : ℕ). part 19 k b) (c .before .before .before .before .before .before .before .before .before .get16 .ensures) in
-    rw (
-      said-eq 78 (c .before .before .before .before .before .before .before .before .before .before .before .before .get8 .ensures) (c .before .before .before .before .before .before .before .before .before .before .before .if1 .left),
-      le-leb (extent challengeL b) (length b) h,
-      said-yes (c .before .before .before .before .before .before .is-full-name .ensures ∙ ap fullName n) (c .before .before .before .before .before .if4 .left),
-      said-yes (c .before .before .before .before .same-bytes .ensures ∙ ap (sameBytes p) n) (c .before .before .before .if5 .left),
-      said-yes (c .before .good-flags .ensures ∙ ap goodFlags (c .before .before .get64 .ensures)) (c .if6 .left),
-    )
+      said-yes (c .before .before .before .before .before .is-full-name .ensures ∙ ap fullName n) (c .before .before .before .before .if4 .left),
+      said-yes (c .before .before .before .same-bytes .ensures ∙ ap (sameBytes p) n) (c .before .before .if5 .left),
+    ) (c .check-flags .ensures ∙ ap (λ (f : ℕ). checked (flagTests (flagTest f))) (c .before .get64 .ensures))
 
 pub check-challenge-spec : {M : Type 1} → statement M
 check-challenge-spec =
@@ -116,6 +103,5 @@ check-challenge-spec =
     same-bytes-requires
     returns-5
     get64-requires
-    good-flags-requires
-    returns-6
-    returns-7)
+    check-flags-requires
+    returns-6)

@@ -1,6 +1,8 @@
 use Rattle.handshake_rules.proofs.CheckLaws.{said-eq, said-ne, said-yes, said-no}
 use Rattle.handshake_rules.specs.Messages.{nameL, nameName}
-use Rattle.handshake_rules.specs.Flags.{goodFlags}
+use Rattle.handshake_rules.specs.Flags.{flagTest}
+use Rattle.handshake_rules.specs.Refusals.{checked}
+use Rattle.handshake_rules.specs.Forms.{flagTests}
 use Rattle.names.specs.Full.{fullName}
 use Rattle.wire.specs.Layout.{extent}
 use Rattle.wire.specs.Run.{part}
@@ -53,32 +55,19 @@ returns-4 c =
 get64-requires : tie.Need-get64-requires
 get64-requires c κs = search needs
 
-good-flags-requires : tie.Need-good-flags-requires
-good-flags-requires c κs = search needs
+check-flags-requires : tie.Need-check-flags-requires
+check-flags-requires c κs = search needs
 
 returns-5 : tie.Need-returns-5
 returns-5 c =
-    let b = c .before .before .before .before .before .before .before .before .before .before .before .before .args .body .now in
-    let h : extent nameL b ≤ length b = omega (arith, c .before .before .before .before .before .before .before .get16 .ensures, c .before .before .before .before .before .before .if3 .left) in
-    let n : c .before .before .before .before .before .get-part .result .now ≡ nameName b = c .before .before .before .before .before .get-part .ensures ∙ ap (λ (k : ℕ). part 15 k b) (c .before .before .before .before .before .before .before .get16 .ensures) in
+    let b = c .before .before .before .before .before .before .before .before .before .before .before .args .body .now in
+    let h : extent nameL b ≤ length b = omega (arith, c .before .before .before .before .before .before .get16 .ensures, c .before .before .before .before .before .if3 .left) in
+    let n : c .before .before .before .before .get-part .result .now ≡ nameName b = c .before .before .before .before .get-part .ensures ∙ ap (λ (k : ℕ). part 15 k b) (c .before .before .before .before .before .before .get16 .ensures) in
     rw (
-      said-eq 78 (c .before .before .before .before .before .before .before .before .before .before .get8 .ensures) (c .before .before .before .before .before .before .before .before .before .if1 .left),
+      said-eq 78 (c .before .before .before .before .before .before .before .before .before .get8 .ensures) (c .before .before .before .before .before .before .before .before .if1 .left),
       le-leb (extent nameL b) (length b) h,
-      said-yes (c .before .before .before .before .is-full-name .ensures ∙ ap fullName n) (c .before .before .before .if4 .left),
-      said-no (c .before .good-flags .ensures ∙ ap goodFlags (c .before .before .get64 .ensures)) (c .if5 .taken),
-    )
-
-returns-6 : tie.Need-returns-6
-returns-6 c =
-    let b = c .before .before .before .before .before .before .before .before .before .before .before .before .args .body .now in
-    let h : extent nameL b ≤ length b = omega (arith, c .before .before .before .before .before .before .before .get16 .ensures, c .before .before .before .before .before .before .if3 .left) in
-    let n : c .before .before .before .before .before .get-part .result .now ≡ nameName b = c .before .before .before .before .before .get-part .ensures ∙ ap (λ (k : ℕ). part 15 k b) (c .before .before .before .before .before .before .before .get16 .ensures) in
-    rw (
-      said-eq 78 (c .before .before .before .before .before .before .before .before .before .before .get8 .ensures) (c .before .before .before .before .before .before .before .before .before .if1 .left),
-      le-leb (extent nameL b) (length b) h,
-      said-yes (c .before .before .before .before .is-full-name .ensures ∙ ap fullName n) (c .before .before .before .if4 .left),
-      said-yes (c .before .good-flags .ensures ∙ ap goodFlags (c .before .before .get64 .ensures)) (c .if5 .left),
-    )
+      said-yes (c .before .before .before .is-full-name .ensures ∙ ap fullName n) (c .before .before .if4 .left),
+    ) (c .check-flags .ensures ∙ ap (λ (f : ℕ). checked (flagTests (flagTest f))) (c .before .get64 .ensures))
 
 pub check-name-spec : {M : Type 1} → statement M
 check-name-spec =
@@ -94,6 +83,5 @@ check-name-spec =
     is-full-name-requires
     returns-4
     get64-requires
-    good-flags-requires
-    returns-5
-    returns-6)
+    check-flags-requires
+    returns-5)
