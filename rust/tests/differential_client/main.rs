@@ -14,7 +14,7 @@ mod pair;
 mod texts;
 
 use calls::Call;
-use common::differ::{report, Compared};
+use common::differ::{attempt, report};
 use common::rng::{rounds, seed, Rng};
 use common::tally::Tally;
 use pair::Pair;
@@ -48,7 +48,7 @@ const EXPECTED: [&str; 19] = [
 fn run(seed: u64, calls: impl IntoIterator<Item = Call>) -> Tally {
     let (mut pair, mut tally) = (Pair::default(), Tally::default());
     for call in calls {
-        if pair.apply(&call, &mut tally).is_err() {
+        if attempt(&mut pair, &call, &mut tally).is_err() {
             report::<Pair>(seed, vec![call]);
         }
     }

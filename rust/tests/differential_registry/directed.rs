@@ -3,7 +3,7 @@
 use birkenschuh::REGISTRY_OUTPUT;
 
 use crate::calls::Call;
-use crate::common::differ::{report, Compared};
+use crate::common::differ::{attempt, report};
 use crate::common::frames::{frame, port_please2, Alive2};
 use crate::common::tally::Tally;
 use crate::pair::Pair;
@@ -28,7 +28,7 @@ fn run(first_creation: u32, calls: impl Fn() -> Vec<Call>) -> Tally {
         all.extend(calls());
         let mut pair = Pair::default();
         for at in 0..all.len() {
-            if pair.apply(&all[at], &mut tally).is_err() {
+            if attempt(&mut pair, &all[at], &mut tally).is_err() {
                 all.truncate(at + 1);
                 report::<Pair>(0, all);
             }

@@ -13,7 +13,7 @@ mod results;
 mod situation;
 
 use calls::Call;
-use common::differ::{report, Compared};
+use common::differ::{attempt, report};
 use common::rng::{rounds, seed, sequence_seed, Rng};
 use common::tally::Tally;
 use generate::Generator;
@@ -57,7 +57,7 @@ fn sequence(seed: u64, tally: &mut Tally) {
             0 => generator.first(&mut rng),
             _ => generator.call(&mut rng, pair.model()),
         });
-        if pair.apply(&calls[at], tally).is_err() {
+        if attempt(&mut pair, &calls[at], tally).is_err() {
             report::<Pair>(seed, calls);
         }
         was_full |= pair

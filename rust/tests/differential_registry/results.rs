@@ -3,7 +3,7 @@
 use birkenschuh::REGISTRY_OUTPUT;
 
 use crate::calls::Call;
-use crate::common::differ::{report, Compared};
+use crate::common::differ::{attempt, report};
 use crate::common::frames::Alive2;
 use crate::common::tally::Tally;
 use crate::pair::Pair;
@@ -40,7 +40,7 @@ impl Run {
     fn apply(&mut self, call: Call) {
         self.calls.push(call);
         let last = &self.calls[self.calls.len() - 1];
-        if self.pair.apply(last, &mut self.tally).is_err() {
+        if attempt(&mut self.pair, last, &mut self.tally).is_err() {
             report::<Pair>(0, self.calls.clone());
         }
     }

@@ -9,7 +9,7 @@ mod generate;
 mod trip;
 
 use calls::Call;
-use common::differ::{report, Compared};
+use common::differ::{attempt, report};
 use common::rng::{rounds, seed, sequence_seed, Rng};
 use common::tally::Tally;
 use generate::Generator;
@@ -52,7 +52,7 @@ fn sequence(seed: u64, tally: &mut Tally) {
             0 => generator.first(&mut rng),
             _ => generator.call(&mut rng),
         });
-        if trip.apply(&calls[at], tally).is_err() {
+        if attempt(&mut trip, &calls[at], tally).is_err() {
             report::<Trip>(seed, calls);
         }
     }
