@@ -1,7 +1,7 @@
--- Refusal 9 carries the flag test's answer (specs/FlagClaims). Assumes nothing.
-use Prim.Native.Nat.{ℕ}
-use mathlib.Core.Path.{_≡_, refl, sym, _∙_, ap}
-use mathlib.Core.Bool.{Bool, true, false, true≢false, not, _&&_}
+-- Refusal 9 carries the flag test's answer, and what stands beside a number (specs/FlagClaims). Assumes nothing.
+use Prim.Native.Nat.{ℕ, _≤_}
+use mathlib.Core.Path.{_≡_, refl, sym, _∙_, ap, subst}
+use mathlib.Core.Bool.{Bool, true, false, true≢false, cond, not, _&&_}
 use mathlib.Core.List.{List, [], _∷_, _++_, append-nil}
 use native.Mathlib.Omega.{arith}
 use lib.ListN.{length}
@@ -10,27 +10,33 @@ use borrow.Author.Tests.{eqb-false}
 use Rattle.wire.specs.Frame.{body}
 use Rattle.names.specs.Full.{fullName}
 use Rattle.handshake_rules.specs.declared.flags.FlagFlaw.{FlagFlaw}
+use Rattle.handshake_rules.specs.declared.flags.FlagFlaw.the-variants.{Missing, NameMe}
 use Rattle.handshake_rules.specs.declared.flags.FlagTest.{FlagTest}
 use Rattle.handshake_rules.specs.declared.flags.FlagTest.the-variants.{Good, Bad}
 use Rattle.handshake_rules.specs.declared.refusal.Refusal.{Refusal}
-use Rattle.handshake_rules.specs.declared.refusal.Refusal.the-variants.{UnknownTag, BadLength, BadName, BadFlags}
+use Rattle.handshake_rules.specs.declared.refusal.Refusal.the-variants.{OutputTooShort, SlotNotTaken, NotAFrame, UnknownTag, BadLength, BadName, BadFlags, AlreadyConnected, BadCookie, PeerTaken, NoFreeSlot, UnknownStatus, WrongDigest, Declined}
 use Rattle.handshake_rules.specs.declared.refusal.Check.{Check}
 use Rattle.handshake_rules.specs.declared.refusal.Check.the-variants.{Pass, Refuse}
 use Rattle.handshake_rules.specs.declared.endpoint.Stage.{Stage}
 use Rattle.handshake_rules.specs.declared.endpoint.Stage.the-variants.{Free, AwaitsName, AwaitsAlive, AwaitsReply, AwaitsStatus, AwaitsChallenge, AwaitsAck, Connected}
 use Rattle.handshake_rules.specs.declared.endpoint.Slot.{Slot}
-use Rattle.handshake_rules.specs.declared.endpoint.Answer.the-variants.{Refused}
+use Rattle.handshake_rules.specs.declared.endpoint.Making.{Making}
+use Rattle.handshake_rules.specs.declared.endpoint.Making.the-variants.{Ready, NotMade}
+use Rattle.handshake_rules.specs.declared.endpoint.Answer.{Answer}
+use Rattle.handshake_rules.specs.declared.endpoint.Answer.the-variants.{Refused, Begun, Arrived, Closed, Answered}
 use Rattle.handshake_rules.specs.State.{Endpoint}
-use Rattle.handshake_rules.specs.Refusals.{whyOf, Test, _given-if_, checked}
-use Rattle.handshake_rules.specs.Flags.{flagTest}
+use Rattle.handshake_rules.specs.Refusals.{only, ofFlags, whyOf, Test, _given-if_, checked}
+use Rattle.handshake_rules.specs.Flags.{bit, required, nameMe, missing, testOf, flagTest}
+use Rattle.handshake_rules.specs.Answers.{makingWhy, numbersOf}
 use Rattle.handshake_rules.specs.Endpoint.{slotAt}
 use Rattle.handshake_rules.specs.Messages.{nameFlags, challengeFlags}
 use Rattle.handshake_rules.specs.Cookie.{Cookies, checking, writing, fit}
 use Rattle.handshake_rules.specs.Forms.{Form, flagTests}
-use Rattle.handshake_rules.specs.Calls.{startTests, arriveTests, closeTests, earlyTests, frameTests, expected, awaited}
+use Rattle.handshake_rules.specs.Calls.{newOf, startTests, arriveTests, closeTests, earlyTests, frameTests, expected, awaited}
 use Rattle.handshake_rules.specs.Runs.{Call, Start, Arrive, Close, Message, step}
-use Rattle.handshake_rules.specs.NumberClaims.{ruleTests, allTests}
-use Rattle.handshake_rules.specs.FlagClaims.{Brought, BroughtIn, CarriedOn}
+use Rattle.handshake_rules.specs.NumberClaims.{Givable, ruleTests, allTests}
+use Rattle.handshake_rules.specs.FlagClaims.{Says, Brought, BroughtIn, CarriedOn, Beside, some-missing, name-me, alone, ToldBeside}
+use Rattle.handshake_rules.proofs.FlagLaws.{flags-tested}
 use Rattle.handshake_rules.proofs.Numbers.{refusedBy, notMadeBy, made-check, start-check, arrive-check, close-check, message-check}
 
 -- the number of what a list of tests comes to
@@ -108,3 +114,77 @@ carried-on =
     call k g Arrive w e = nowhere w (arriveTests g) refl (sym (arrive-check g) ∙ ap refusedBy e)
     call k g (Close s) w e = nowhere w (closeTests g s) refl (sym (close-check g s) ∙ ap refusedBy e)
     call k g (Message s f c out) w e = in-message w k g s f c (length out) (sym (message-check k g s f c (length out)) ∙ ap refusedBy e)
+
+-- ---- what stands beside a number
+
+few : (is : List ℕ) (f : ℕ) → length (missing is f) ≤ length is
+few [] f = omega arith
+few (i ∷ is) f = by (bit i f) (few is f)
+  where
+    by : (b : Bool) → length (missing is f) ≤ length is → length (cond b (missing is f) (i ∷ missing is f)) ≤ length (i ∷ is)
+    by true h = omega (arith, h)
+    by false h = omega (arith, h)
+
+-- a count that is told is that of the bits missing, and not 0
+counts : (m : List ℕ) (asked : Bool) (n i : ℕ) → testOf m asked ≡ Bad (Missing n i) → (1 ≤ n) × (n ≡ length m)
+counts [] true n i e = let z : _≡_ {A = ℕ} 0 1 = cc in absurd (omega arith)
+counts [] false n i e = let z : _≡_ {A = ℕ} 0 1 = cc in absurd (omega arith)
+counts (j ∷ js) asked n i e = let z : length (j ∷ js) ≡ n = cc in (omega (arith, z), sym z)
+
+flaw-beside : (f : ℕ) (w : FlagFlaw) → flagTest f ≡ Bad w → Beside (ofFlags w)
+unfolding flagTest
+flaw-beside f NameMe e = name-me
+flaw-beside f (Missing n i) e =
+    let h = counts (missing required f) (bit nameMe f) n i e in
+    some-missing n i (h .0) (omega (arith, h .1, few required f)) (subst (Says f) e (flags-tested f) .required)
+
+number-alone : (n : ℕ) → eqb n 9 ≡ false → Beside (only n)
+number-alone n e = alone n (eqb-false n 9 e)
+
+beside : (r : Refusal) → Givable (Refuse r) → Beside (whyOf r)
+beside OutputTooShort g = number-alone 1 refl
+beside SlotNotTaken g = number-alone 2 refl
+beside NotAFrame g = number-alone 3 refl
+beside UnknownTag g = number-alone 4 refl
+beside BadLength g = number-alone 5 refl
+beside BadName g = number-alone 6 refl
+beside (BadFlags w) g = flaw-beside (g w refl .0) w (g w refl .1)
+beside AlreadyConnected g = number-alone 10 refl
+beside BadCookie g = number-alone 11 refl
+beside PeerTaken g = number-alone 12 refl
+beside NoFreeSlot g = number-alone 13 refl
+beside UnknownStatus g = number-alone 14 refl
+beside WrongDigest g = number-alone 15 refl
+beside Declined g = number-alone 16 refl
+
+-- the flags that a call brings are some flags
+some-flags : (st : Stage) (b : List ℕ) (w : FlagFlaw) → Brought st b w → (f : ℕ) × (flagTest f ≡ Bad w)
+some-flags Free b w h = absurd h
+some-flags AwaitsName b w h = (nameFlags b, h)
+some-flags AwaitsAlive b w h = absurd h
+some-flags AwaitsReply b w h = absurd h
+some-flags AwaitsStatus b w h = absurd h
+some-flags AwaitsChallenge b w h = (challengeFlags b, h)
+some-flags AwaitsAck b w h = absurd h
+some-flags Connected b w h = absurd h
+
+flags-in : (g : Endpoint) (c : Call) (w : FlagFlaw) → BroughtIn g c w → (f : ℕ) × (flagTest f ≡ Bad w)
+flags-in g (Start n out) w h = absurd h
+flags-in g Arrive w h = absurd h
+flags-in g (Close s) w h = absurd h
+flags-in g (Message s f c out) w h = some-flags (slotAt g s .stage) (body f) w h
+
+pub told-beside : ToldBeside
+told-beside =
+    record { making = λ n f c. made n f c (newOf n f c .making) refl; call = λ k g c. answered k g c (step g c k .told .answer) refl }
+  where
+    made : (n : List ℕ) (f c : ℕ) (m : Making) → newOf n f c .making ≡ m → Beside (makingWhy m)
+    made n f c Ready e = number-alone 0 refl
+    made n f c (NotMade r) e = beside r (λ w q. (f, carried-on .making n f c w (e ∙ ap NotMade q)))
+
+    answered : (k : Cookies) (g : Endpoint) (c : Call) (a : Answer) → step g c k .told .answer ≡ a → Beside (numbersOf a .why)
+    answered k g c (Refused r) e = beside r (λ w q. flags-in g c w (carried-on .call k g c w (e ∙ ap Refused q)))
+    answered k g c (Begun s n) e = number-alone 0 refl
+    answered k g c (Arrived s) e = number-alone 0 refl
+    answered k g c Closed e = number-alone 0 refl
+    answered k g c (Answered st o n) e = number-alone 0 refl

@@ -6,7 +6,7 @@ use Rattle.handshake_rules.proofs.Connected.{only-by-digest, connected-
 use Rattle.handshake_rules.proofs.Sent.{sent-challenge, sent-reply, last-sent}
 use Rattle.handshake_rules.proofs.Refused.{refused-quietly}
 use Rattle.handshake_rules.proofs.FlagLaws.{flags-tested, one-answer, good-exactly}
-use Rattle.handshake_rules.proofs.Nine.{carried-on}
+use Rattle.handshake_rules.proofs.Nine.{carried-on, told-beside}
 use Rattle.handshake_rules.proofs.Numbers.{given-exactly, numbers-apart}
 use Rattle.handshake_rules.proofs.Kept.{kept-whole, made-fresh}
 use Rattle.handshake_rules.proofs.Size.{writes-little}
@@ -36,6 +36,7 @@ promises =
       one-answer = one-answer;
       good-exactly = good-exactly;
       carried-on = carried-on;
+      told-beside = told-beside;
       kept-whole = kept-whole;
       made-fresh = made-fresh;
       writes-little = writes-little;

@@ -26,7 +26,7 @@ use Rattle.handshake_rules.specs.Plans.{spared, concluded}
 use Rattle.handshake_rules.specs.Calls.{newTests, startTests, begun, startOf, arriveTests, arrived, arriveOf, closeTests, closeOf, awaited, messageTests, messageOf}
 use Rattle.handshake_rules.specs.Runs.{Call, Start, Arrive, Close, Message, step, next, lent, left, used, checkOf, Given, moments, beforeSplit, All, Alike, Agree, Asked, ends, MadeOf}
 use Rattle.handshake_rules.specs.NumberClaims.{GivenExactly, NumbersApart}
-use Rattle.handshake_rules.specs.FlagClaims.{FlagsTested, OneAnswer, GoodExactly, CarriedOn}
+use Rattle.handshake_rules.specs.FlagClaims.{FlagsTested, OneAnswer, GoodExactly, CarriedOn, ToldBeside}
 use Rattle.handshake_rules.specs.MessageClaims.{NameReadBack, ChallengeReadBack, StatusReadBack, ReplyReadBack, AckReadBack, FrameSplits}
 use Rattle.handshake_rules.specs.SlotClaims.{OnlyByDigest, ConnectedByDigest, SentChallenge, SentReply, LastSent, Recorded, PeersApart, Lasting, SlotSteps, FreedWasTaken, StageTold, EndsTold, EndExact}
 
@@ -161,6 +161,7 @@ pub record Promises : Type 0 where
   pub one-answer : OneAnswer
   pub good-exactly : GoodExactly
   pub carried-on : CarriedOn
+  pub told-beside : ToldBeside
   pub kept-whole : KeptWhole
   pub made-fresh : MadeFresh
   pub writes-little : WritesLittle

@@ -1,5 +1,5 @@
 -- What is proved of the flag test (02, P3), and of what refusal 9 carries (proofs/FlagLaws, proofs/Nine).
-use Prim.Native.Nat.{ℕ, zero, suc, _+_, _<_}
+use Prim.Native.Nat.{ℕ, zero, suc, _+_, _≤_, _<_}
 use mathlib.Core.Path.{_≡_}
 use mathlib.Core.Bool.{Bool, true, false, cond, _&&_, _||_, not}
 use mathlib.Core.List.{List, [], _∷_}
@@ -9,14 +9,17 @@ use Rattle.handshake_rules.specs.declared.flags.FlagFlaw.{FlagFlaw}
 use Rattle.handshake_rules.specs.declared.flags.FlagFlaw.the-variants.{Missing, NameMe}
 use Rattle.handshake_rules.specs.declared.flags.FlagTest.{FlagTest}
 use Rattle.handshake_rules.specs.declared.flags.FlagTest.the-variants.{Good, Bad}
+use Rattle.handshake_rules.specs.declared.refusal.Why.{Why}
 use Rattle.handshake_rules.specs.declared.refusal.Refusal.the-variants.{BadFlags}
 use Rattle.handshake_rules.specs.declared.endpoint.Stage.{Stage}
 use Rattle.handshake_rules.specs.declared.endpoint.Stage.the-variants.{Free, AwaitsName, AwaitsAlive, AwaitsReply, AwaitsStatus, AwaitsChallenge, AwaitsAck, Connected}
 use Rattle.handshake_rules.specs.declared.endpoint.Making.the-variants.{NotMade}
 use Rattle.handshake_rules.specs.declared.endpoint.Answer.the-variants.{Refused}
 use Rattle.handshake_rules.specs.State.{Endpoint}
+use Rattle.handshake_rules.specs.Refusals.{only}
 use Rattle.handshake_rules.specs.Flags.{bit, required, nameMe, goodFlags, flagTest}
 use Rattle.handshake_rules.specs.Endpoint.{slotAt}
+use Rattle.handshake_rules.specs.Answers.{makingWhy, numbersOf}
 use Rattle.handshake_rules.specs.Messages.{nameFlags, challengeFlags}
 use Rattle.handshake_rules.specs.Cookie.{Cookies}
 use Rattle.handshake_rules.specs.Calls.{newOf}
@@ -91,3 +94,16 @@ BroughtIn g (Message s f c out) w = Brought (slotAt g s .stage) (body f) w
 pub record CarriedOn : Type 0 where
   pub making : (n : List ℕ) (f c : ℕ) (w : FlagFlaw) → newOf n f c .making ≡ NotMade (BadFlags w) → flagTest f ≡ Bad w
   pub call : (k : Cookies) (g : Endpoint) (c : Call) (w : FlagFlaw) → step g c k .told .answer ≡ Refused (BadFlags w) → BroughtIn g c w
+
+-- ---- what stands beside a number
+
+-- with 9 how many of the five are missing and the lowest, or 0 and 33; with every other number, and where nothing is refused, 0 and 0
+pub data Beside : Why → Type 0 where
+  some-missing : (count lowest : ℕ) → 1 ≤ count → count ≤ 5 → Required lowest → Beside (record { number = 9; missing = count; lowest = lowest })
+  name-me : Beside (record { number = 9; missing = 0; lowest = 33 })
+  alone : (number : ℕ) → (number ≡ 9 → ⊥) → Beside (only number)
+
+-- any endpoint, any call (Nine.told-beside)
+pub record ToldBeside : Type 0 where
+  pub making : (n : List ℕ) (f c : ℕ) → Beside (makingWhy (newOf n f c .making))
+  pub call : (k : Cookies) (g : Endpoint) (c : Call) → Beside (numbersOf (step g c k .told .answer) .why)
