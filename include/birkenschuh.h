@@ -229,15 +229,7 @@ typedef struct { uint32_t refusal; uint32_t slot; } bks_arrived;
  * stage is the slot's new one, and freed another slot that the message freed, or 32; beside a refusal they are 0 and 32. ended is 1 if the
  * slot named is free now by this message, answered or refused, and otherwise 0: then close its connection, and do not call bks_endpoint_close.
  */
-typedef struct {
-    uint32_t refusal;
-    uint32_t stage;
-    uint32_t freed;
-    uint32_t ended;
-    size_t written;
-    uint32_t missing;
-    uint32_t lowest;
-} bks_answered;
+typedef struct { uint32_t refusal; uint32_t stage; uint32_t freed; uint32_t ended; size_t written; uint32_t missing; uint32_t lowest; } bks_answered;
 
 /* A slot's record: what is not yet recorded, and all of a free slot, is zero. The bytes behind the name's length are zero. */
 typedef struct {
