@@ -25,12 +25,12 @@ pub const REQUIRED_FLAGS: u64 = 0x4_0300_0104;
 /// ```
 #[derive(Clone, Copy, Debug, PartialEq, Eq, PartialOrd, Ord, Hash)]
 pub enum FlagFlaw {
-    /// Required flags are clear.
+    /// Required flags are clear. (Two bytes: a refusal is handed through every call.)
     Missing {
         /// How many of the five.
-        count: u32,
+        count: u8,
         /// The lowest of them, by the number of its bit.
-        lowest: u32,
+        lowest: u8,
     },
     /// No required flag is clear, but bit 33 (DFLAG_NAME_ME) is set: a dynamic name is asked for.
     NameMe,
@@ -60,7 +60,7 @@ impl FlagFlaw {
     /// What the library tells beside refusal 9: how many are missing and the lowest, or 0 and 33.
     pub fn values(self) -> (u32, u32) {
         match self {
-            FlagFlaw::Missing { count, lowest } => (count, lowest),
+            FlagFlaw::Missing { count, lowest } => (count.into(), lowest.into()),
             FlagFlaw::NameMe => (0, 33),
         }
     }
@@ -88,7 +88,7 @@ impl FlagFlaw {
     }
 }
 
-const fn missing(count: u32, lowest: u32) -> FlagFlaw {
+const fn missing(count: u8, lowest: u8) -> FlagFlaw {
     FlagFlaw::Missing { count, lowest }
 }
 

@@ -60,32 +60,11 @@ pub enum Refusal {
 }
 
 impl Refusal {
-    /// Those that carry nothing but their number, in the order of their numbers.
-    const PLAIN: [Refusal; 17] = [
-        Refusal::OutputTooShort,
-        Refusal::SlotNotTaken,
-        Refusal::NotAFrame,
-        Refusal::UnknownTag,
-        Refusal::BadLength,
-        Refusal::BadName,
-        Refusal::BadVersions,
-        Refusal::NotServed,
-        Refusal::AlreadyConnected,
-        Refusal::BadCookie,
-        Refusal::PeerTaken,
-        Refusal::NoFreeSlot,
-        Refusal::UnknownStatus,
-        Refusal::WrongDigest,
-        Refusal::Declined,
-        Refusal::ZeroCreation,
-        Refusal::Ambiguous,
-    ];
-
     /// All refusals that are told: those that carry nothing else, in the order of their numbers, and
     /// 9 with each [`FlagFlaw`].
     pub fn all() -> impl Iterator<Item = Refusal> {
-        let flaws = FlagFlaw::ALL.map(Refusal::BadFlags);
-        Refusal::PLAIN.into_iter().chain(flaws)
+        let plain = (1..=20).filter_map(Refusal::plain);
+        plain.chain(FlagFlaw::ALL.map(Refusal::BadFlags))
     }
 
     /// The number of this refusal, 1 to 17 or 20.
@@ -112,13 +91,36 @@ impl Refusal {
         }
     }
 
+    /// The refusal of this number, if it is one that carries nothing else.
+    fn plain(number: u32) -> Option<Refusal> {
+        Some(match number {
+            1 => Refusal::OutputTooShort,
+            2 => Refusal::SlotNotTaken,
+            3 => Refusal::NotAFrame,
+            4 => Refusal::UnknownTag,
+            5 => Refusal::BadLength,
+            6 => Refusal::BadName,
+            7 => Refusal::BadVersions,
+            8 => Refusal::NotServed,
+            10 => Refusal::AlreadyConnected,
+            11 => Refusal::BadCookie,
+            12 => Refusal::PeerTaken,
+            13 => Refusal::NoFreeSlot,
+            14 => Refusal::UnknownStatus,
+            15 => Refusal::WrongDigest,
+            16 => Refusal::Declined,
+            17 => Refusal::ZeroCreation,
+            20 => Refusal::Ambiguous,
+            _ => return None,
+        })
+    }
+
     /// What the library's number means, in a call that does not test flags: 0 is no refusal.
     pub(crate) fn check(number: u32) -> Result<(), Refusal> {
         if number == 0 {
             return Ok(());
         }
-        let mut plain = Refusal::PLAIN.into_iter();
-        match plain.find(|refusal| refusal.number() == number) {
+        match Refusal::plain(number) {
             Some(refusal) => Err(refusal),
             None => unreachable!("the library gave the refusal {number}"),
         }

@@ -153,7 +153,10 @@ fn by_the_wrapper() {
     for ((flags, count, lowest), text) in FLAWS.into_iter().zip(TEXTS) {
         let flaw = match count {
             0 => FlagFlaw::NameMe,
-            _ => FlagFlaw::Missing { count, lowest },
+            _ => FlagFlaw::Missing {
+                count: count as u8,
+                lowest: lowest as u8,
+            },
         };
         let refusal = Refusal::BadFlags(flaw);
         assert_eq!(refusal.to_string(), text);

@@ -6,7 +6,7 @@ use crate::seen::{all, seen, Seen};
 use crate::text;
 
 /// How many required bits are missing and the lowest of them, or 0 and 33; or nothing is wrong.
-type Told = Option<(u32, u32)>;
+type Told = Option<(u8, u8)>;
 
 /// The name messages of hs_10 in their order: flags, whether the real node took them, and what is told
 /// of them by 02, worked out by hand from their bits.
@@ -58,7 +58,7 @@ pub fn refusal(seen: &Seen) -> Option<Refusal> {
     told.map(bad_flags)
 }
 
-fn bad_flags(told: (u32, u32)) -> Refusal {
+fn bad_flags(told: (u8, u8)) -> Refusal {
     Refusal::BadFlags(match told {
         (0, 33) => FlagFlaw::NameMe,
         (count, lowest) => FlagFlaw::Missing { count, lowest },

@@ -31,7 +31,7 @@ pub struct Told {
 impl From<Refusal> for Numbers {
     fn from(refusal: Refusal) -> Numbers {
         let (missing, lowest) = match refusal {
-            Refusal::BadFlags(FlagFlaw::Missing { count, lowest }) => (count, lowest),
+            Refusal::BadFlags(FlagFlaw::Missing { count, lowest }) => (count.into(), lowest.into()),
             Refusal::BadFlags(FlagFlaw::NameMe) => (0, 33),
             _ => (0, 0),
         };
