@@ -12,8 +12,6 @@ use Rattle.handshake_rules.specs.State.{Told, Made}
 use Rattle.handshake_rules.specs.declared.endpoint.Slot.{Slot}
 use Rattle.handshake_rules.specs.declared.endpoint.Freed.{Freed}
 use Rattle.handshake_rules.specs.declared.endpoint.Answer.{Answer}
-use Rattle.handshake_rules.specs.declared.endpoint.Answer.the-variants.{Refused}
-use Rattle.handshake_rules.specs.declared.refusal.Refusal.{Refusal}
 use Rattle.handshake_rules.specs.declared.refusal.Why.{Why}
 use Rattle.handshake_rules.specs.Answers as rules
 use Rattle.handshake_rules.specs.Endpoint.{stageNumber}
@@ -65,10 +63,6 @@ refusalIn n = n .why .number
 
 abbrev pub answeredIn : Numbers → m.Answered
 answeredIn n = record { refusal = n .why .number; stage = n .stage; freed = n .freed; ended = n .ended; written = n .written; missing = n .why .missing; lowest = n .why .lowest }
-
--- a refusal
-abbrev pub refuses : Refusal → Numbers
-refuses r = crossing (rules.numbersOf (Refused r)) (rules.endsSlot (Refused r))
 
 -- an answer to a message, by the number of its stage
 abbrev pub answers : ℕ → Freed → ℕ → Numbers

@@ -1,5 +1,6 @@
 // 01's numbers for the endpoint's answers, as they cross to the host.
 ghost use mathlib.Core.Path.{_≡_};
+ghost use Rattle.handshake_rules.specs.declared.endpoint.Answer.the-variants.{Refused};
 ghost use Rattle.handshake_rules.specs.Answers as rules;
 ghost use Rattle.birkenschuh.specs.Endpoint as endpoint;
 use handshake_rules::endpoint::Answer;
@@ -74,7 +75,7 @@ fn tell(slot: usize, stage: u32, freed: usize, ended: bool, written: usize) -> N
 }
 
 fn refuse(refusal: Refusal) -> Numbers
-    ensures { λ r. ⌜ r ≡ endpoint.refuses refusal ⌝ }
+    ensures { λ r. ⌜ r ≡ endpoint.toldOf (Refused refusal) ⌝ }
 {
     Numbers {
         why: refusal.why(),

@@ -12,7 +12,7 @@ use Rattle.handshake_rules.specs.declared.flags.FlagTest.{FlagTest}
 use Rattle.handshake_rules.specs.declared.flags.FlagTest.the-variants.{Good, Bad}
 use Rattle.handshake_rules.specs.Flags.{bit, allSet, required, nameMe, goodFlags, missing, testOf, flagTest}
 use Rattle.handshake_rules.specs.Forms.{flagTests}
-use Rattle.handshake_rules.specs.FlagClaims.{isOneOf, clearBelow, Lacks, Says, FlagsTested, OneAnswer, isGood, GoodExactly}
+use Rattle.handshake_rules.specs.FlagClaims.{among, clearBelow, Lacks, Says, FlagsTested, OneAnswer, isGood, GoodExactly}
 use Rattle.handshake_rules.specs.Claims.{NoneHolds}
 
 -- ---- good
@@ -58,19 +58,19 @@ pub rising : Rising 0 required
 rising = (omega arith, (omega arith, (omega arith, (omega arith, (omega arith, tt)))))
 
 -- none below lo is of such a list
-too-low : (is : List ℕ) (lo i : ℕ) → Rising lo is → i < lo → isOneOf i is ≡ false
+too-low : (is : List ℕ) (lo i : ℕ) → Rising lo is → i < lo → among i is ≡ false
 too-low [] lo i r l = refl
 too-low (j ∷ js) lo i r l = rw (ne-eqb i j (λ (e : i ≡ j). absurd (omega (arith, r .0, l)))) (too-low js (suc j) i (r .1) (omega (arith, r .0, l)))
 
 -- of the bits `is`: i is the first that is clear
 record First (is : List ℕ) (f i : ℕ) : Type 0 where
-  of : isOneOf i is ≡ true
+  of : among i is ≡ true
   clear : bit i f ≡ false
-  below : (k : ℕ) → k < i → isOneOf k is ≡ true → bit k f ≡ true
+  below : (k : ℕ) → k < i → among k is ≡ true → bit k f ≡ true
 
 -- what a list of missing bits says
 abbrev Tells : List ℕ → ℕ → List ℕ → Type 0
-Tells is f [] = (i : ℕ) → isOneOf i is ≡ true → bit i f ≡ true
+Tells is f [] = (i : ℕ) → among i is ≡ true → bit i f ≡ true
 Tells is f (i ∷ rest) = First is f i
 
 or-true : (x : Bool) → (x || true) ≡ true
@@ -82,7 +82,7 @@ tells [] lo f r = λ i e. absurd (true≢false (sym e))
 tells (j ∷ js) lo f r = by (bit j f) refl (missing js f) (tells js (suc j) f (r .1))
   where
     -- j itself is set, and so are those of js that are asked for
-    either : (k : ℕ) (x : Bool) → eqb k j ≡ x → bit j f ≡ true → (isOneOf k js ≡ true → bit k f ≡ true) → (x || isOneOf k js) ≡ true → bit k f ≡ true
+    either : (k : ℕ) (x : Bool) → eqb k j ≡ x → bit j f ≡ true → (among k js ≡ true → bit k f ≡ true) → (x || among k js) ≡ true → bit k f ≡ true
     either k true p q g o = ap (λ (u : ℕ). bit u f) (eqb-true k j p) ∙ q
     either k false p q g o = g o
 
@@ -112,6 +112,12 @@ longer i is f = by (bit i f)
 counted : (f : ℕ) → length (missing required f) ≡ clearBelow 64 f
 counted f =
     omega (arith, longer 2 (8 ∷ 24 ∷ 25 ∷ 34 ∷ []) f, longer 8 (24 ∷ 25 ∷ 34 ∷ []) f, longer 24 (25 ∷ 34 ∷ []) f, longer 25 (34 ∷ []) f, longer 34 [] f)
+
+-- a count that is told is that of the bits missing, and not 0
+pub counts : (m : List ℕ) (asked : Bool) (n i : ℕ) → testOf m asked ≡ Bad (Missing n i) → (1 ≤ n) × (n ≡ length m)
+counts [] true n i e = let z : _≡_ {A = ℕ} 0 1 = cc in absurd (omega arith)
+counts [] false n i e = let z : _≡_ {A = ℕ} 0 1 = cc in absurd (omega arith)
+counts (j ∷ js) asked n i e = let z : length (j ∷ js) ≡ n = cc in (omega (arith, z), sym z)
 
 -- ---- the test
 

@@ -14,9 +14,9 @@ use Rattle.handshake_rules.specs.declared.flags.FlagFlaw.the-variants.{M
 use Rattle.handshake_rules.specs.declared.flags.FlagTest.{FlagTest}
 use Rattle.handshake_rules.specs.declared.flags.FlagTest.the-variants.{Good, Bad}
 use Rattle.handshake_rules.specs.declared.refusal.Refusal.{Refusal}
-use Rattle.handshake_rules.specs.declared.refusal.Refusal.the-variants.{OutputTooShort, SlotNotTaken, NotAFrame, UnknownTag, BadLength, BadName, BadFlags, AlreadyConnected, BadCookie, PeerTaken, NoFreeSlot, UnknownStatus, WrongDigest, Declined}
+use Rattle.handshake_rules.specs.declared.refusal.Refusal.the-variants.{UnknownTag, BadLength, BadName, BadFlags}
 use Rattle.handshake_rules.specs.declared.refusal.Check.{Check}
-use Rattle.handshake_rules.specs.declared.refusal.Check.the-variants.{Pass, Refuse}
+use Rattle.handshake_rules.specs.declared.refusal.Check.the-variants.{Refuse}
 use Rattle.handshake_rules.specs.declared.endpoint.Stage.{Stage}
 use Rattle.handshake_rules.specs.declared.endpoint.Stage.the-variants.{Free, AwaitsName, AwaitsAlive, AwaitsReply, AwaitsStatus, AwaitsChallenge, AwaitsAck, Connected}
 use Rattle.handshake_rules.specs.declared.endpoint.Slot.{Slot}
@@ -26,7 +26,7 @@ use Rattle.handshake_rules.specs.declared.endpoint.Answer.{Answer}
 use Rattle.handshake_rules.specs.declared.endpoint.Answer.the-variants.{Refused, Begun, Arrived, Closed, Answered}
 use Rattle.handshake_rules.specs.State.{Endpoint}
 use Rattle.handshake_rules.specs.Refusals.{only, ofFlags, whyOf, Test, _given-if_, checked}
-use Rattle.handshake_rules.specs.Flags.{bit, required, nameMe, missing, testOf, flagTest}
+use Rattle.handshake_rules.specs.Flags.{bit, required, nameMe, missing, flagTest}
 use Rattle.handshake_rules.specs.Answers.{makingWhy, numbersOf}
 use Rattle.handshake_rules.specs.Endpoint.{slotAt}
 use Rattle.handshake_rules.specs.Messages.{nameFlags, challengeFlags}
@@ -34,15 +34,15 @@ use Rattle.handshake_rules.specs.Cookie.{Cookies, checking, writing, fit
 use Rattle.handshake_rules.specs.Forms.{Form, flagTests}
 use Rattle.handshake_rules.specs.Calls.{newOf, startTests, arriveTests, closeTests, earlyTests, frameTests, expected, awaited}
 use Rattle.handshake_rules.specs.Runs.{Call, Start, Arrive, Close, Message, step}
-use Rattle.handshake_rules.specs.NumberClaims.{Givable, ruleTests, allTests}
+use Rattle.handshake_rules.specs.NumberClaims.{checkWhy, Givable, ruleTests, allTests}
 use Rattle.handshake_rules.specs.FlagClaims.{Says, Brought, BroughtIn, CarriedOn, Beside, some-missing, name-me, alone, ToldBeside}
-use Rattle.handshake_rules.proofs.FlagLaws.{flags-tested}
+use Rattle.handshake_rules.proofs.FlagLaws.{counts, flags-tested}
+use Rattle.handshake_rules.proofs.OtherLaws.{Told, number-only, with-flags, told}
 use Rattle.handshake_rules.proofs.Numbers.{refusedBy, notMadeBy, made-check, start-check, arrive-check, close-check, message-check}
 
 -- the number of what a list of tests comes to
 abbrev number : Check → ℕ
-number Pass = 0
-number (Refuse r) = whyOf r .number
+number x = checkWhy x .number
 
 -- whether none of a list's refusals is 9
 abbrev without : List Test → Bool
@@ -125,12 +125,6 @@ few (i ∷ is) f = by (bit i f) (few is f)
     by true h = omega (arith, h)
     by false h = omega (arith, h)
 
--- a count that is told is that of the bits missing, and not 0
-counts : (m : List ℕ) (asked : Bool) (n i : ℕ) → testOf m asked ≡ Bad (Missing n i) → (1 ≤ n) × (n ≡ length m)
-counts [] true n i e = let z : _≡_ {A = ℕ} 0 1 = cc in absurd (omega arith)
-counts [] false n i e = let z : _≡_ {A = ℕ} 0 1 = cc in absurd (omega arith)
-counts (j ∷ js) asked n i e = let z : length (j ∷ js) ≡ n = cc in (omega (arith, z), sym z)
-
 flaw-beside : (f : ℕ) (w : FlagFlaw) → flagTest f ≡ Bad w → Beside (ofFlags w)
 unfolding flagTest
 flaw-beside f NameMe e = name-me
@@ -142,20 +136,11 @@ number-alone : (n : ℕ) → eqb n 9 ≡ false → Beside (only n)
 number-alone n e = alone n (eqb-false n 9 e)
 
 beside : (r : Refusal) → Givable (Refuse r) → Beside (whyOf r)
-beside OutputTooShort g = number-alone 1 refl
-beside SlotNotTaken g = number-alone 2 refl
-beside NotAFrame g = number-alone 3 refl
-beside UnknownTag g = number-alone 4 refl
-beside BadLength g = number-alone 5 refl
-beside BadName g = number-alone 6 refl
-beside (BadFlags w) g = flaw-beside (g w refl .0) w (g w refl .1)
-beside AlreadyConnected g = number-alone 10 refl
-beside BadCookie g = number-alone 11 refl
-beside PeerTaken g = number-alone 12 refl
-beside NoFreeSlot g = number-alone 13 refl
-beside UnknownStatus g = number-alone 14 refl
-beside WrongDigest g = number-alone 15 refl
-beside Declined g = number-alone 16 refl
+beside r g = by (told r) g
+  where
+    by : {r : Refusal} → Told r → Givable (Refuse r) → Beside (whyOf r)
+    by (number-only q e n) g = subst Beside (sym e) (number-alone (whyOf q .number) n)
+    by (with-flags w) g = flaw-beside (g w refl .0) w (g w refl .1)
 
 -- the flags that a call brings are some flags
 some-flags : (st : Stage) (b : List ℕ) (w : FlagFlaw) → Brought st b w → (f : ℕ) × (flagTest f ≡ Bad w)

@@ -4,7 +4,7 @@ use mathlib.Core.Path.{_≡_, refl, sym, _∙_, ap, subst}
 use mathlib.Core.Bool.{Bool, true, false, true≢false, cond, not, _||_}
 use mathlib.Core.List.{List, [], _∷_}
 use native.Mathlib.Omega.{arith}
-use lib.ListN.{length, getD}
+use lib.ListN.{getD}
 use Rattle.wire.specs.Run.{sameBytes}
 use Rattle.wire.specs.Frame.{body}
 use Rattle.wire.proofs.RunLaws.{same-decides}
@@ -26,7 +26,7 @@ use Rattle.handshake_rules.specs.declared.endpoint.Answer.the-variants.{
 use Rattle.handshake_rules.specs.declared.accepting.Greeting.{Greeting}
 use Rattle.handshake_rules.specs.declared.accepting.Greeting.the-variants.{NotAllowed, Nok, OkSimultaneous, Alive, Ok}
 use Rattle.handshake_rules.specs.Refusals.{Test, _given-if_, checked, unless}
-use Rattle.handshake_rules.specs.Flags.{bit, required, nameMe, missing, testOf, flagTest, flawCount, flawBit}
+use Rattle.handshake_rules.specs.Flags.{bit, required, nameMe, missing, flagTest, flawCount, flawBit}
 use Rattle.handshake_rules.specs.Endpoint.{fresh, freed, slotAt}
 use Rattle.handshake_rules.specs.Messages.{nameName, nameFlags, nameCreation, statusWord, replyDigest, ackDigest, ok, okSimultaneous, nok, notAllowed, alive, trueWord, falseWord}
 use Rattle.handshake_rules.specs.Forms.{formTests}
@@ -38,6 +38,7 @@ use Rattle.handshake_rules.specs.Calls.{newTests, notMade, newOf, startT
 use Rattle.handshake_rules.specs.Answers.{makingWhy, numbersOf}
 use Rattle.handshake_rules.specs.NumberClaims.{checkWhy, Givable, NumbersApart, isOneOf, ruleTests, allTests, GivenExactly}
 use Rattle.handshake_rules.specs.Claims.{NoneHolds}
+use Rattle.handshake_rules.proofs.FlagLaws.{counts}
 use Rattle.handshake_rules.proofs.CheckLaws.{andThen, checked-append, none-holds}
 
 -- an outcome that is refused, or not
@@ -216,14 +217,9 @@ numbered y = getD (byNumber (flaw (y .missing) (y .lowest))) (y .number) Pass
 -- the test tells at least one bit where it tells of missing ones
 flaw-back : (f : ℕ) (w : FlagFlaw) → flagTest f ≡ Bad w → flaw (flawCount w) (flawBit w) ≡ w
 unfolding flagTest
-flaw-back f w = by (missing required f) (bit nameMe f) w
-  where
-    by : (m : List ℕ) (asked : Bool) (w : FlagFlaw) → testOf m asked ≡ Bad w → flaw (flawCount w) (flawBit w) ≡ w
-    by m asked NameMe e = refl
-    by m asked (Missing (suc n) i) e = refl
-    by [] true (Missing zero i) e = let z : _≡_ {A = ℕ} 0 1 = cc in absurd (omega arith)
-    by [] false (Missing zero i) e = let z : _≡_ {A = ℕ} 0 1 = cc in absurd (omega arith)
-    by (j ∷ js) asked (Missing zero i) e = let z : _≡_ {A = ℕ} (suc (length js)) 0 = cc in absurd (omega arith)
+flaw-back f NameMe e = refl
+flaw-back f (Missing (suc n) i) e = refl
+flaw-back f (Missing zero i) e = absurd (omega (arith, counts (missing required f) (bit nameMe f) 0 i e .0))
 
 back : (x : Check) → Givable x → numbered (checkWhy x) ≡ x
 back Pass g = refl

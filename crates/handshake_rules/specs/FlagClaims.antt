@@ -27,17 +27,17 @@ use Rattle.handshake_rules.specs.Runs.{Call, Start, Arrive, Close, Messa
 
 -- ---- the test
 
-abbrev pub isOneOf : ℕ → List ℕ → Bool
-isOneOf i [] = false
-isOneOf i (j ∷ js) = eqb i j || isOneOf i js
+abbrev pub among : ℕ → List ℕ → Bool
+among i [] = false
+among i (j ∷ js) = eqb i j || among i js
 
 abbrev pub Required : ℕ → Type 0
-Required i = isOneOf i required ≡ true
+Required i = among i required ≡ true
 
 -- how many of the bits below n are required and clear
 abbrev pub clearBelow : ℕ → ℕ → ℕ
 clearBelow zero f = 0
-clearBelow (suc n) f = cond (isOneOf n required && not (bit n f)) 1 0 + clearBelow n f
+clearBelow (suc n) f = cond (among n required && not (bit n f)) 1 0 + clearBelow n f
 
 -- "how many required bits are missing, and the lowest of them by its number"
 pub record Lacks (f count lowest : ℕ) : Type 0 where

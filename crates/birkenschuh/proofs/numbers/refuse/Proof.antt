@@ -1,3 +1,4 @@
+use Rattle.birkenschuh.specs.Endpoint.{toldOf}
 use borrow.Author.Needs.{needs}
 use Rattle.birkenschuh.proofs.numbers.refuse.Statement.{statement}
 use Rattle.birkenschuh.proofs.numbers.refuse.Tie as tie
@@ -15,6 +16,7 @@ flag-requires : tie.Need-flag-requires
 flag-requires c κs = search needs
 
 returns : tie.Need-returns
+unfolding toldOf
 returns c = rw (c .flag .ensures, c .before .frees .ensures, c .before .before .why .ensures)
 
 pub refuse-spec : {M : Type 1} → statement M
