@@ -11,7 +11,7 @@ use lib.Count.{ones, onesIn, ones-cat, ones-step, under, trailingZeros}
 use lib.Pow.{pow-pos, pow-add, shr-shr}
 use borrow.Author.Tests.{eqb-true, eqb-false}
 use Rattle.handshake_rules.specs.Flags.{bit, missing}
-use Rattle.handshake_rules.proofs.FlagLaws.{Rising}
+use Rattle.handshake_rules.proofs.FlagLaws.{Rising, Under}
 
 -- the number whose ones are bits that rise, counted from bit lo on
 abbrev pub mask : ℕ → List ℕ → ℕ
@@ -105,10 +105,6 @@ lower (j ∷ js) lo i l h =
     let e : j - lo ≡ (j - suc i) + suc (i - lo) = omega (arith, l, h) in
     let p : 2 ^ (j - lo) ≡ 2 ^ (j - suc i) * (2 * 2 ^ (i - lo)) = ap (λ (u : ℕ). 2 ^ u) e ∙ pow-add 2 (j - suc i) (suc (i - lo)) ∙ ap (λ (u : ℕ). 2 ^ (j - suc i) * u) (pow-suc 2 (i - lo) ∙ mul-comm (2 ^ (i - lo)) 2) in
     ap (λ (u : ℕ). x * u) p ∙ sym (mul-assoc x (2 ^ (j - suc i)) (2 * 2 ^ (i - lo))) ∙ sym (mul-assoc (x * 2 ^ (j - suc i)) 2 (2 ^ (i - lo)))
-
-abbrev pub Under : ℕ → List ℕ → Type 0
-Under w [] = Unit
-Under w (i ∷ is) = (i ≤ w) × Under w is
 
 pub under-missing : (is : List ℕ) (w f : ℕ) → Under w is → Under w (missing is f)
 under-missing [] w f u = tt

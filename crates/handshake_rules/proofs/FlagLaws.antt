@@ -1,12 +1,12 @@
 -- Laws of the flag test (specs/FlagClaims). Assumes nothing.
-use Prim.Native.Nat.{ℕ, suc, _+_, _<_, _≤_}
+use Prim.Native.Nat.{ℕ, zero, suc, _+_, _<_, _≤_}
 use mathlib.Core.Path.{_≡_, refl, sym, _∙_, ap, ap₂}
 use mathlib.Core.Bool.{Bool, true, false, true≢false, cond, _&&_, _||_, not}
 use mathlib.Core.List.{List, [], _∷_}
 use native.Mathlib.Omega.{arith}
 use lib.ListN.{length}
 use lib.Dec.{eqb, ltb}
-use borrow.Author.Tests.{eqb-true, eq-eqb, ne-eqb, ltb-true, ltb-false}
+use borrow.Author.Tests.{eqb-true, eqb-false, eq-eqb, ne-eqb, ltb-true, ltb-false, lt-ltb, le-ltb}
 use Rattle.handshake_rules.specs.declared.flags.FlagFlaw.the-variants.{Missing, NameMe}
 use Rattle.handshake_rules.specs.declared.flags.FlagTest.{FlagTest}
 use Rattle.handshake_rules.specs.declared.flags.FlagTest.the-variants.{Good, Bad}
@@ -99,19 +99,52 @@ tells (j ∷ js) lo f r = by (bit j f) refl (missing js f) (tells js (suc j) f (
 
 -- ---- counted
 
-abbrev one : ℕ → ℕ → ℕ
-one i f = cond (not (bit i f)) 1 0
+-- a list whose numbers are at most w
+abbrev pub Under : ℕ → List ℕ → Type 0
+Under w [] = Unit
+Under w (i ∷ is) = (i ≤ w) × Under w is
 
-longer : (i : ℕ) (is : List ℕ) (f : ℕ) → length (missing (i ∷ is) f) ≡ one i f + length (missing is f)
-longer i is f = by (bit i f)
+pub under : Under 63 required
+under = (omega arith, (omega arith, (omega arith, (omega arith, (omega arith, tt)))))
+
+none-clear : (n f : ℕ) → clearBelow [] n f ≡ 0
+none-clear zero f = refl
+none-clear (suc n) f = omega (arith, none-clear n f)
+
+abbrev once : Bool → ℕ
+once b = cond b 1 0
+
+-- a clear bit counts once, from where it stands on
+abbrev one : ℕ → ℕ → ℕ → ℕ
+one i n f = once (ltb i n && not (bit i f))
+
+one-more : (i : ℕ) (is : List ℕ) (f n : ℕ) → Rising (suc i) is → clearBelow (i ∷ is) n f ≡ one i n f + clearBelow is n f
+one-more i is f zero r = rw (le-ltb i 0 (omega arith)) refl
+one-more i is f (suc n) r = by (eqb n i) refl (one-more i is f n r)
   where
-    by : (b : Bool) → length (cond b (missing is f) (i ∷ missing is f)) ≡ cond (not b) 1 0 + length (missing is f)
+    by : (x : Bool) → eqb n i ≡ x → clearBelow (i ∷ is) n f ≡ one i n f + clearBelow is n f
+        → once ((x || among n is) && not (bit n f)) + clearBelow (i ∷ is) n f ≡ one i (suc n) f + (once (among n is && not (bit n f)) + clearBelow is n f)
+    by true e h =
+        let q = eqb-true n i e in
+        let here : ltb i (suc n) ≡ true = lt-ltb i (suc n) (omega (arith, q)) in
+        let last : ltb i n ≡ false = le-ltb i n (omega (arith, q)) in
+        let new = too-low is (suc i) n r (omega (arith, q)) in
+        let same : once (not (bit n f)) ≡ once (not (bit i f)) = ap (λ (j : ℕ). once (not (bit j f))) q in
+        let before : clearBelow (i ∷ is) n f ≡ clearBelow is n f = h ∙ ap (λ (b : Bool). once (b && not (bit i f)) + clearBelow is n f) last ∙ omega arith in
+        rw (here, new) (omega (arith, before, same))
+    by false e h = rw (later (ltb i n) refl) (omega (arith, h))
+      where
+        later : (x : Bool) → ltb i n ≡ x → ltb i (suc n) ≡ ltb i n
+        later true l = lt-ltb i (suc n) (omega (arith, ltb-true i n l)) ∙ sym l
+        later false l = le-ltb i (suc n) (omega (arith, ltb-false i n l, eqb-false n i e)) ∙ sym l
+
+counted : (is : List ℕ) (lo w f : ℕ) → Rising lo is → Under w is → length (missing is f) ≡ clearBelow is (suc w) f
+counted [] lo w f r u = sym (none-clear (suc w) f)
+counted (i ∷ is) lo w f r u = by (bit i f) ∙ ap (λ (n : ℕ). once (not (bit i f)) + n) (counted is (suc i) w f (r .1) (u .1)) ∙ sym (one-more i is f (suc w) (r .1) ∙ rw (lt-ltb i (suc w) (omega (arith, u .0))) refl)
+  where
+    by : (b : Bool) → length (cond b (missing is f) (i ∷ missing is f)) ≡ once (not b) + length (missing is f)
     by true = omega arith
     by false = omega arith
-
-counted : (f : ℕ) → length (missing required f) ≡ clearBelow 64 f
-counted f =
-    omega (arith, longer 2 (8 ∷ 24 ∷ 25 ∷ 34 ∷ []) f, longer 8 (24 ∷ 25 ∷ 34 ∷ []) f, longer 24 (25 ∷ 34 ∷ []) f, longer 25 (34 ∷ []) f, longer 34 [] f)
 
 -- a count that is told is that of the bits missing, and not 0
 pub counts : (m : List ℕ) (asked : Bool) (n i : ℕ) → testOf m asked ≡ Bad (Missing n i) → (1 ≤ n) × (n ≡ length m)
@@ -123,12 +156,12 @@ counts (j ∷ js) asked n i e = let z : length (j ∷ js) ≡ n = cc in (omega (
 
 pub flags-tested : FlagsTested
 unfolding flagTest
-flags-tested f = by (missing required f) (bit nameMe f) refl (tells required 0 f rising) (counted f)
+flags-tested f = by (missing required f) (bit nameMe f) refl (tells required 0 f rising) (counted required 0 63 f rising under)
   where
-    lacks : (i n : ℕ) → First required f i → n ≡ clearBelow 64 f → Lacks f n i
+    lacks : (i n : ℕ) → First required f i → n ≡ clearBelow required 64 f → Lacks f n i
     lacks i n h e = record { counted = e; required = h .of; clear = h .clear; first = h .below }
 
-    by : (m : List ℕ) (asked : Bool) → bit nameMe f ≡ asked → Tells required f m → length m ≡ clearBelow 64 f → Says f (testOf m asked)
+    by : (m : List ℕ) (asked : Bool) → bit nameMe f ≡ asked → Tells required f m → length m ≡ clearBelow required 64 f → Says f (testOf m asked)
     by [] true e h n = (h, e)
     by [] false e h n = (h, e)
     by (i ∷ rest) true e h n = lacks i (length (i ∷ rest)) h n

@@ -34,14 +34,14 @@ among i (j ∷ js) = eqb i j || among i js
 abbrev pub Required : ℕ → Type 0
 Required i = among i required ≡ true
 
--- how many of the bits below n are required and clear
-abbrev pub clearBelow : ℕ → ℕ → ℕ
-clearBelow zero f = 0
-clearBelow (suc n) f = cond (among n required && not (bit n f)) 1 0 + clearBelow n f
+-- how many of the bits below n are of these and clear
+abbrev pub clearBelow : List ℕ → ℕ → ℕ → ℕ
+clearBelow is zero f = 0
+clearBelow is (suc n) f = cond (among n is && not (bit n f)) 1 0 + clearBelow is n f
 
 -- "how many required bits are missing, and the lowest of them by its number"
 pub record Lacks (f count lowest : ℕ) : Type 0 where
-  pub counted : count ≡ clearBelow 64 f
+  pub counted : count ≡ clearBelow required 64 f
   pub required : Required lowest
   pub clear : bit lowest f ≡ false
   pub first : (i : ℕ) → i < lowest → Required i → bit i f ≡ true

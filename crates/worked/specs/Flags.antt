@@ -2,25 +2,43 @@
 use Prim.Native.Nat.{ℕ}
 use mathlib.Core.Path.{_≡_}
 use mathlib.Core.List.{List, [], _∷_, map}
-use Rattle.wire.specs.Frame.{body}
 use Rattle.handshake_rules.specs.declared.refusal.Why.{Why}
-use Rattle.handshake_rules.specs.Refusals.{checked}
-use Rattle.handshake_rules.specs.Answers.{makingWhy}
-use Rattle.handshake_rules.specs.Messages.{nameMessage, challengeMessage}
-use Rattle.handshake_rules.specs.Forms.{formTests, nameForm, challengeForm}
-use Rattle.handshake_rules.specs.NumberClaims.{checkWhy}
-use Rattle.handshake_rules.specs.Calls.{newOf}
-use Rattle.worked.specs.Frames.{a-at-b}
+use Rattle.handshake_rules.specs.State.{Endpoint}
+use Rattle.handshake_rules.specs.Answers.{makingWhy, numbersOf}
+use Rattle.handshake_rules.specs.Messages.{nameMessage, challengeMessage, statusMessage, ok}
+use Rattle.handshake_rules.specs.Cookie.{Cookies, cookies}
+use Rattle.handshake_rules.specs.Plans.{Done}
+use Rattle.handshake_rules.specs.Calls.{room, newOf, startOf, arriveOf, messageOf}
+use Rattle.worked.specs.Frames.{a-at-b, b-at-a}
 
--- flags, in making, in a name message and in a challenge
+-- ---- the calls that test flags, each as its caller sees it
+
+-- making an endpoint with them
 abbrev pub made : ℕ → Why
 made f = makingWhy (newOf a-at-b f 7 .making)
 
+-- the endpoint of b@a, and a message on its slot 0
+abbrev pub ours : Endpoint
+ours = newOf b-at-a 0x403000104 7 .endpoint
+
+abbrev pub cookie : Cookies
+cookie = cookies [] (0x63 ∷ [])
+
+abbrev pub message : Endpoint → List ℕ → Done
+message g frame = messageOf cookie g 0 frame 5 room
+
+-- a@b has come in, and its name message brings them
 abbrev pub named : ℕ → Why
-named f = checkWhy (checked (formTests (nameForm (body (nameMessage f 7 a-at-b)))))
+named f = numbersOf (message (arriveOf ours .endpoint) (nameMessage f 7 a-at-b) .told .answer) .why
+
+-- we have started towards a@b, it has said ok, and its challenge brings them
+abbrev pub awaiting : Endpoint
+awaiting = message (startOf ours a-at-b room .told .endpoint) (statusMessage ok) .told .endpoint
 
 abbrev pub challenged : ℕ → Why
-challenged f = checkWhy (checked (formTests (challengeForm a-at-b (body (challengeMessage f 5 7 a-at-b)))))
+challenged f = numbersOf (message awaiting (challengeMessage f 5 7 a-at-b) .told .answer) .why
+
+-- ---- the cases
 
 pub record Case : Type 0 where
   pub flags : ℕ

@@ -1,2 +1,3 @@
 pub mod Frames
 pub mod Flags
+pub mod Claims

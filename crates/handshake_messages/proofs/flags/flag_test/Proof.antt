@@ -11,13 +11,10 @@ use borrow.Author.Needs.{needs}
 use Rattle.handshake_rules.specs.declared.flags.FlagFlaw.the-variants.{Missing}
 use Rattle.handshake_rules.specs.declared.flags.FlagTest.the-variants.{Bad}
 use Rattle.handshake_rules.specs.Flags.{bit, required, nameMe, missing, testOf, flagTest}
-use Rattle.handshake_rules.proofs.FlagLaws.{rising}
-use Rattle.handshake_messages.proofs.Masks.{mask, mask-ones, mask-none, mask-lowest, Under, under-missing, lacking}
+use Rattle.handshake_rules.proofs.FlagLaws.{rising, Under, under}
+use Rattle.handshake_messages.proofs.Masks.{mask, mask-ones, mask-none, mask-lowest, under-missing, lacking}
 use Rattle.handshake_messages.proofs.flags.flag_test.Statement.{statement}
 use Rattle.handshake_messages.proofs.flags.flag_test.Tie as tie
-
-under : Under 63 required
-under = (omega arith, (omega arith, (omega arith, (omega arith, (omega arith, tt)))))
 
 lacks : (f : ℕ) → f < 2 ^ 64 → bitAnd 0x403000104 (18446744073709551615 - f) ≡ mask 0 (missing required f)
 lacks f h = lacking required 63 f rising under h
