@@ -146,12 +146,6 @@ counted (i ∷ is) lo w f r u = by (bit i f) ∙ ap (λ (n : ℕ). once (not (bi
     by true = omega arith
     by false = omega arith
 
--- a count that is told is that of the bits missing, and not 0
-pub counts : (m : List ℕ) (asked : Bool) (n i : ℕ) → testOf m asked ≡ Bad (Missing n i) → (1 ≤ n) × (n ≡ length m)
-counts [] true n i e = let z : _≡_ {A = ℕ} 0 1 = cc in absurd (omega arith)
-counts [] false n i e = let z : _≡_ {A = ℕ} 0 1 = cc in absurd (omega arith)
-counts (j ∷ js) asked n i e = let z : length (j ∷ js) ≡ n = cc in (omega (arith, z), sym z)
-
 -- ---- the test
 
 pub flags-tested : FlagsTested
@@ -166,6 +160,12 @@ flags-tested f = by (missing required f) (bit nameMe f) refl (tells required 0 f
     by [] false e h n = (h, e)
     by (i ∷ rest) true e h n = lacks i (length (i ∷ rest)) h n
     by (i ∷ rest) false e h n = lacks i (length (i ∷ rest)) h n
+
+-- a count that is told is that of the bits missing, and not 0
+pub counts : (m : List ℕ) (asked : Bool) (n i : ℕ) → testOf m asked ≡ Bad (Missing n i) → (1 ≤ n) × (n ≡ length m)
+counts [] true n i e = let z : _≡_ {A = ℕ} 0 1 = cc in absurd (omega arith)
+counts [] false n i e = let z : _≡_ {A = ℕ} 0 1 = cc in absurd (omega arith)
+counts (j ∷ js) asked n i e = let z : length (j ∷ js) ≡ n = cc in (omega (arith, z), sym z)
 
 -- of two that are both the lowest neither is lower
 lowest-same : (f c d i j : ℕ) → Lacks f c i → Lacks f d j → i ≡ j
