@@ -16,7 +16,7 @@ use Rattle.handshake_messages.proofs.Masks.{mask, mask-ones, mask-none,
 use Rattle.handshake_messages.proofs.flags.flag_test.Statement.{statement}
 use Rattle.handshake_messages.proofs.flags.flag_test.Tie as tie
 
-lacks : (f : ℕ) → f < 2 ^ 64 → bitAnd 0x403000104 (18446744073709551615 - f) ≡ mask 0 (missing required f)
+lacks : (f : ℕ) → f < 2 ^ 64 → bitAnd (mask 0 required) (18446744073709551615 - f) ≡ mask 0 (missing required f)
 lacks f h = lacking required 63 f rising under h
 
 -- the first argument: those missing
@@ -34,7 +34,7 @@ returns c =
     ∙ told (missing required f) (bit nameMe f) (under-missing required 63 f under) (λ z. c .if1 .taken (e ∙ z))
 
 -- the rest: none is missing
-none : (f : ℕ) → f < 2 ^ 64 → bitAnd 0x403000104 (18446744073709551615 - f) ≡ 0 → missing required f ≡ []
+none : (f : ℕ) → f < 2 ^ 64 → bitAnd (mask 0 required) (18446744073709551615 - f) ≡ 0 → missing required f ≡ []
 none f h e = mask-none (missing required f) (sym (lacks f h) ∙ e)
 
 returns-2 : tie.Need-returns-2
