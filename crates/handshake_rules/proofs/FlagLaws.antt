@@ -140,7 +140,9 @@ one-more i is f (suc n) r = by (eqb n i) refl (one-more i is f n r)
 
 counted : (is : List ℕ) (lo w f : ℕ) → Rising lo is → Under w is → length (missing is f) ≡ clearBelow is (suc w) f
 counted [] lo w f r u = sym (none-clear (suc w) f)
-counted (i ∷ is) lo w f r u = by (bit i f) ∙ ap (λ (n : ℕ). once (not (bit i f)) + n) (counted is (suc i) w f (r .1) (u .1)) ∙ sym (one-more i is f (suc w) (r .1) ∙ rw (lt-ltb i (suc w) (omega (arith, u .0))) refl)
+counted (i ∷ is) lo w f r u =
+    by (bit i f) ∙ ap (λ (n : ℕ). once (not (bit i f)) + n) (counted is (suc i) w f (r .1) (u .1))
+    ∙ sym (one-more i is f (suc w) (r .1) ∙ rw (lt-ltb i (suc w) (omega (arith, u .0))) refl)
   where
     by : (b : Bool) → length (cond b (missing is f) (i ∷ missing is f)) ≡ once (not b) + length (missing is f)
     by true = omega arith

@@ -34,7 +34,7 @@ among i (j ∷ js) = eqb i j || among i js
 abbrev pub Required : ℕ → Type 0
 Required i = among i required ≡ true
 
--- how many of the bits below n are of these and clear
+-- how many of the bits below n are among those of the list, and clear
 abbrev pub clearBelow : List ℕ → ℕ → ℕ → ℕ
 clearBelow is zero f = 0
 clearBelow is (suc n) f = cond (among n is && not (bit n f)) 1 0 + clearBelow is n f

@@ -1,6 +1,6 @@
 -- P3's cases, computed by the definitions. Assumes nothing.
 use mathlib.Core.Path.{refl}
-use Rattle.wire.specs.Run.{part, sameBytes, order, count}
+use Rattle.wire.specs.Run.{part, sameBytes, count}
 use Rattle.wire.specs.Number.{beAt}
 use Rattle.wire.specs.Frame.{framed, isFrame, body}
 use Rattle.wire.specs.Lookup.{firstAt}
@@ -16,5 +16,5 @@ use Rattle.handshake_rules.specs.Calls.{newOf, startOf, arriveOf, expected, pla
 use Rattle.worked.specs.Flags.{Everywhere}
 
 pub worked : Everywhere
-unfolding part sameBytes order count beAt framed isFrame body firstAt fullName nameOf nameBytes flagTest nameMessage challengeMessage statusMessage allowed fit settled finished greeting reaction newOf startOf arriveOf expected plan messageOf
+unfolding part sameBytes count beAt framed isFrame body firstAt fullName nameOf nameBytes flagTest nameMessage challengeMessage statusMessage allowed fit settled finished greeting reaction newOf startOf arriveOf expected plan messageOf
 worked = record { making = refl; name = refl; challenge = refl }

@@ -1,4 +1,4 @@
--- All that is proved here (Promises.promises): a claim that is not proved is missed here.
+-- All that is proved here, in one record (Promises.promises): a claim that is dropped is missed.
 use Rattle.worked.specs.Frames.{Worked}
 use Rattle.worked.specs.Flags.{Everywhere}
 
