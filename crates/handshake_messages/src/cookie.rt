@@ -43,15 +43,15 @@ pub fn is_fit(stage: Stage, cookie: &[u8]) -> bool
     }
 }
 
-// The digest of a challenge with a cookie.
+// The digest of a challenge with a cookie: of the cookie's bytes, and the challenge in decimal behind them.
 pub fn digest(challenge: u32, cookie: &[u8]) -> [u8; 16]
     requires { ⌜ length (now cookie) ≤ 255 ⌝ }
     ensures { λ r. ⌜ r ≡ digestOf challenge (now (cookie .entry)) ⌝ }
 {
     let mut text = [0u8; 265];
-    let n = wire::put_decimal(&mut text, 0, challenge);
-    wire::put_bytes(&mut text, n, cookie);
-    let m = n + cookie.len();
+    wire::put_bytes(&mut text, 0, cookie);
+    let n = cookie.len();
+    let m = n + wire::put_decimal(&mut text, n, challenge);
     md5::digest(&text[..m])
 }
 

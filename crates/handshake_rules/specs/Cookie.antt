@@ -9,9 +9,9 @@ use Rattle.md5.specs.Md5.{md5}
 use Rattle.handshake_rules.specs.declared.endpoint.Stage.{Stage}
 use Rattle.handshake_rules.specs.declared.endpoint.Stage.the-variants.{Free, AwaitsName, AwaitsAlive, AwaitsReply, AwaitsStatus, AwaitsChallenge, AwaitsAck, Connected}
 
--- "Digest: MD5 of the challenge as decimal text without leading zeros, followed by the cookie bytes"
+-- 02, P4: "MD5 of the cookie bytes followed by the decimal challenge text"
 unfoldable pub digestOf : ℕ → List ℕ → List ℕ
-digestOf challenge cookie = md5 (decimal challenge ++ cookie)
+digestOf challenge cookie = md5 (cookie ++ decimal challenge)
 
 -- the cookies that are lent with a call: the peer's own, and the default
 pub record Cookies : Type 0 where

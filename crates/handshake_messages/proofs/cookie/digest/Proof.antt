@@ -1,4 +1,4 @@
--- The decimal text has at most ten characters, so that text and cookie fit; what is digested is the two side by side.
+-- The decimal text has at most ten characters, so that it fits behind the cookie; what is digested is the two side by side.
 use Rattle.md5.specs.Md5.{md5}
 use Rattle.wire.specs.Output.{overwrite}
 use lib.Seq.{length-take-le}
@@ -16,44 +16,41 @@ use borrow.Author.Needs.{needs}
 use Rattle.handshake_messages.proofs.cookie.digest.Statement.{statement}
 use Rattle.handshake_messages.proofs.cookie.digest.Tie as tie
 
+slice-aggregate-put-bytes : tie.Need-slice-aggregate-put-bytes
+slice-aggregate-put-bytes c = search needs
+
+put-bytes-requires : tie.Need-put-bytes-requires
+put-bytes-requires c κs = search needs
+
 slice-aggregate-put-decimal : tie.Need-slice-aggregate-put-decimal
 slice-aggregate-put-decimal c = search needs
 
 put-decimal-requires : tie.Need-put-decimal-requires
 put-decimal-requires c κs =
-    let a = c .before .before .args in
-    let h : a .challenge < 2 ^ 32 = search needs in
-    omega (arith, decimal-text (a .challenge) h .few)
-
-slice-aggregate-put-bytes : tie.Need-slice-aggregate-put-bytes
-slice-aggregate-put-bytes c = search needs
-
-put-bytes-requires : tie.Need-put-bytes-requires
-put-bytes-requires c κs =
     let a = c .before .before .before .before .before .args in
     let h : a .challenge < 2 ^ 32 = search needs in
-    let k : length (c .before .before .put-decimal .last .0) ≡ 265 = search needs in
-    omega (arith, c .before .before .put-decimal .ensures .0, decimal-text (a .challenge) h .few)
+    let k : length (c .before .before .put-bytes .last .0) ≡ 265 = search needs in
+    omega (arith, decimal-text (a .challenge) h .few)
 
 add-m : tie.Need-add-m
 add-m c =
     let a = c .before .before .before .before .before .before .before .args in
     let h : a .challenge < 2 ^ 32 = search needs in
-    record { fits = omega (arith, c .before .before .before .before .put-decimal .ensures .0, decimal-text (a .challenge) h .few) }
+    record { fits = omega (arith, c .before .put-decimal .ensures .0, decimal-text (a .challenge) h .few) }
 
 array-share-prefix-text : tie.Need-array-share-prefix-text
 array-share-prefix-text c =
     let a = c .before .before .before .before .before .before .before .args in
     let h : a .challenge < 2 ^ 32 = search needs in
-    let k : length (c .before .put-bytes .last .0) ≡ 265 = search needs in
-    omega (arith, c .before .before .before .before .put-decimal .ensures .0, decimal-text (a .challenge) h .few)
+    let k : length (c .before .put-decimal .last .0) ≡ 265 = search needs in
+    omega (arith, c .before .put-decimal .ensures .0, decimal-text (a .challenge) h .few)
 
 slice-aggregate-digest : tie.Need-slice-aggregate-digest
 slice-aggregate-digest c =
     let a = c .before .before .before .before .before .before .before .before .args in
     let h : a .challenge < 2 ^ 32 = search needs in
-    let k : length (c .before .before .put-bytes .last .0) ≡ 265 = search needs in
-    sym (length-take-le _ (c .before .before .put-bytes .last .0) (omega (arith, c .before .before .before .before .before .put-decimal .ensures .0, decimal-text (a .challenge) h .few)))
+    let k : length (c .before .before .put-decimal .last .0) ≡ 265 = search needs in
+    sym (length-take-le _ (c .before .before .put-decimal .last .0) (omega (arith, c .before .before .put-decimal .ensures .0, decimal-text (a .challenge) h .few)))
 
 digest-requires : tie.Need-digest-requires
 digest-requires c κs = search needs
@@ -62,21 +59,22 @@ returns : tie.Need-returns
 unfolding digestOf
 returns c =
     let a = c .before .before .before .before .before .before .before .before .before .args in
-    let z = replicate {A = ℕ} 265 0 in
+    let k = a .cookie .now in
     let d = decimal (a .challenge) in
-    let n = c .before .before .before .before .before .before .put-decimal .result in
+    let put = c .before .before .before .put-decimal in
+    let m = length k + put .result in
     c .digest .ensures
-    ∙ ap (λ (x : List ℕ). md5 (take (n + length (a .cookie .now)) x)) (c .before .before .before .put-bytes .ensures ∙ ap (λ (x : List ℕ). overwrite x n (a .cookie .now)) (c .before .before .before .before .before .before .put-decimal .ensures .1))
-    ∙ ap md5 (joined z d (a .cookie .now) n (n + length (a .cookie .now)) (c .before .before .before .before .before .before .put-decimal .ensures .0) refl)
+    ∙ ap (λ (x : List ℕ). md5 (take m x)) (put .ensures .1 ∙ ap (λ (x : List ℕ). overwrite x (length k) d) (c .before .before .before .before .before .before .put-bytes .ensures))
+    ∙ ap md5 (joined (replicate {A = ℕ} 265 0) k d (length k) m refl (ap (λ (n : ℕ). length k + n) (put .ensures .0)))
 
 pub digest-spec : {M : Type 1} → statement M
 digest-spec =
     tie.close
     (tie.spec
-    slice-aggregate-put-decimal
-    put-decimal-requires
     slice-aggregate-put-bytes
     put-bytes-requires
+    slice-aggregate-put-decimal
+    put-decimal-requires
     add-m
     array-share-prefix-text
     slice-aggregate-digest
