@@ -4,6 +4,7 @@ use Rattle.handshake_rules.proofs.Secrecy.{demand3, no-secret-kept}
 use Rattle.handshake_rules.proofs.Checks.{check-made}
 use Rattle.handshake_rules.proofs.Connected.{only-by-digest, connected-by-digest}
 use Rattle.handshake_rules.proofs.Sent.{sent-challenge, sent-reply, last-sent}
+use Rattle.handshake_rules.proofs.RealDigests.{real-digests}
 use Rattle.handshake_rules.proofs.Refused.{refused-quietly}
 use Rattle.handshake_rules.proofs.FlagLaws.{flags-tested, one-answer, good-exactly}
 use Rattle.handshake_rules.proofs.Nine.{carried-on, told-beside}
@@ -29,6 +30,7 @@ promises =
       sent-challenge = sent-challenge;
       sent-reply = sent-reply;
       last-sent = last-sent;
+      real-digests = real-digests;
       refused-quietly = refused-quietly;
       given-exactly = given-exactly;
       numbers-apart = numbers-apart;

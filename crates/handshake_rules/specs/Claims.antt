@@ -1,5 +1,5 @@
 -- What is proved of the calls' definitions, beside the contracts that are equations with them; of slots in SlotClaims, of messages in MessageClaims, of
--- refusals in NumberClaims, of flags in FlagClaims. Each claim names the theorem in proofs/ that is its proof.
+-- refusals in NumberClaims, of flags in FlagClaims, of the digest in DigestClaims. Each claim names the theorem in proofs/ that is its proof.
 use Prim.Native.Nat.{ℕ, _≤_}
 use mathlib.Core.Path.{_≡_}
 use mathlib.Core.Bool.{Bool, true, false}
@@ -27,6 +27,7 @@ use Rattle.handshake_rules.specs.Calls.{newTests, startTests, begun, sta
 use Rattle.handshake_rules.specs.Runs.{Call, Start, Arrive, Close, Message, step, next, lent, left, used, checkOf, Given, moments, beforeSplit, All, Alike, Agree, Asked, ends, MadeOf}
 use Rattle.handshake_rules.specs.NumberClaims.{GivenExactly, NumbersApart}
 use Rattle.handshake_rules.specs.FlagClaims.{FlagsTested, OneAnswer, GoodExactly, CarriedOn, ToldBeside}
+use Rattle.handshake_rules.specs.DigestClaims.{RealDigests}
 use Rattle.handshake_rules.specs.MessageClaims.{NameReadBack, ChallengeReadBack, StatusReadBack, ReplyReadBack, AckReadBack, FrameSplits}
 use Rattle.handshake_rules.specs.SlotClaims.{OnlyByDigest, ConnectedByDigest, SentChallenge, SentReply, LastSent, Recorded, PeersApart, Lasting, SlotSteps, FreedWasTaken, StageTold, EndsTold, EndExact}
 
@@ -154,6 +155,7 @@ pub record Promises : Type 0 where
   pub sent-challenge : SentChallenge
   pub sent-reply : SentReply
   pub last-sent : LastSent
+  pub real-digests : RealDigests
   pub refused-quietly : RefusedQuietly
   pub given-exactly : GivenExactly
   pub numbers-apart : NumbersApart

@@ -1,3 +1,4 @@
 pub mod Frames
 pub mod Flags
+pub mod Handshake
 pub mod Claims
