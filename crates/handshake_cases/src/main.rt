@@ -1,11 +1,12 @@
 // Puts calls to two endpoints and prints what each tells, what it wrote and what a slot then holds:
 // whole handshakes, a case for every refusal and one for every rule of every stage.
 //
-// stdin has the calls, each behind its length in two bytes. cases.py makes it, and makes stdout from
-// a model of its own.
+// stdin has the calls as cases. cases.py makes it, and makes stdout from a model of its own.
 ghost use mathlib.Core.Path.{_≡_};
 ghost use Prim.Native.Nat.{_≤_};
 ghost use lib.ListN.{length};
+use cases::print::word;
+use cases::record;
 use handshake::SIZE;
 use handshake::calls;
 use handshake_rules::endpoint::Answer;
@@ -13,7 +14,6 @@ use handshake_rules::endpoint::Freed;
 use handshake_rules::endpoint::Making;
 use handshake_rules::refusal::Refusal;
 use libc::STDIN_FILENO;
-use libc::STDOUT_FILENO;
 use read::byte;
 use read::num16;
 use read::num32;
@@ -26,22 +26,14 @@ fn wide(b: u8) -> u64 {
     b as u64
 }
 
-fn word(text: &[u8]) {
-    io::write_all(STDOUT_FILENO, text);
-}
-
 fn number(n: u64) {
     word(b" ");
-    io::print_decimal(STDOUT_FILENO, n);
+    cases::print::number(n);
 }
 
 fn bytes(s: &[u8]) {
     word(b" ");
-    let mut i = 0;
-    while i < s.len() {
-        io::print_hex(STDOUT_FILENO, wide(s[i]), 2);
-        i += 1;
-    }
+    cases::print::bytes(s);
 }
 
 fn freed_number(freed: Freed) {
@@ -225,16 +217,16 @@ fn step(one: &mut [u8; SIZE], two: &mut [u8; SIZE], r: &[u8]) {
 fn run(s: &[u8]) {
     let mut one = [0u8; SIZE];
     let mut two = [0u8; SIZE];
-    let mut i = 0;
-    while 2 <= s.len() - i {
-        let n = wire::get16(s, i) as usize;
-        i += 2;
-        if s.len() - i < n {
+    let mut at = 0;
+    while at < s.len() {
+        let r = record::find(s, at);
+        let start = r.start;
+        let end = r.end;
+        if end <= at {
             return;
         }
-        let e = i + n;
-        step(&mut one, &mut two, &s[i..e]);
-        i = e;
+        step(&mut one, &mut two, &s[start..end]);
+        at = end;
     }
 }
 

@@ -1,11 +1,8 @@
 // What single lines of a script are (01, The script program), at the bounds of each rule: `script` itself
 // shows one refused line a run. Each is printed with its item; stdout was written by hand from 01.
-use libc::STDOUT_FILENO;
+use cases::print::number;
+use cases::print::word;
 use script_lines::Item;
-
-fn word(text: &[u8]) {
-    io::write_all(STDOUT_FILENO, text);
-}
 
 fn print_item(line: &[u8]) {
     let item = script_lines::item_of(line);
@@ -13,7 +10,7 @@ fn print_item(line: &[u8]) {
         Item::Op => word(b"op\n"),
         Item::Conn(n) => {
             word(b"conn ");
-            io::print_decimal(STDOUT_FILENO, n as u64);
+            number(n as u64);
             word(b"\n");
         }
         Item::Hex => word(b"hex\n"),
@@ -84,7 +81,7 @@ fn keys() {
 fn show_length(line: &[u8], n: usize) {
     if n <= line.len() {
         word(b"hex= and digits, in all ");
-        io::print_decimal(STDOUT_FILENO, n as u64);
+        number(n as u64);
         word(b" characters, is ");
         print_item(wire::get_part(line, 0, n));
     }

@@ -1,39 +1,33 @@
 // Puts the rule of a node's name to byte sequences at every boundary of RFC 3629's table, and to
 // names at the bounds of length, and prints each with the answer.
 //
-// stdin has the sequences, each behind its length in two bytes. sequences.py makes it, and makes
-// stdout from the answers of Python's own decoder.
+// stdin has the sequences as cases. sequences.py makes it, and makes stdout from the answers of
+// Python's own decoder.
+use cases::print::bytes;
+use cases::print::word;
+use cases::record;
 use libc::STDIN_FILENO;
-use libc::STDOUT_FILENO;
-
-fn wide(b: u8) -> u64 {
-    b as u64
-}
 
 fn print(name: &[u8]) {
-    let mut i = 0;
-    while i < name.len() {
-        io::print_hex(STDOUT_FILENO, wide(name[i]), 2);
-        i += 1;
-    }
+    bytes(name);
     if names::is_node_name(name) {
-        io::write_all(STDOUT_FILENO, b" yes\n");
+        word(b" yes\n");
     } else {
-        io::write_all(STDOUT_FILENO, b" no\n");
+        word(b" no\n");
     }
 }
 
 fn print_all(s: &[u8]) {
-    let mut i = 0;
-    while 2 <= s.len() - i {
-        let n = wire::get16(s, i) as usize;
-        i += 2;
-        if s.len() - i < n {
+    let mut at = 0;
+    while at < s.len() {
+        let r = record::find(s, at);
+        let start = r.start;
+        let end = r.end;
+        if end <= at {
             return;
         }
-        let e = i + n;
-        print(&s[i..e]);
-        i = e;
+        print(&s[start..end]);
+        at = end;
     }
 }
 

@@ -3,7 +3,7 @@
 ghost use Prim.Native.Nat.{_≤_};
 use crate::ask;
 use crate::print::first;
-use crate::print::word;
+use cases::print::word;
 use epmd::ROOM;
 use epmd::SIZE;
 

@@ -1,6 +1,6 @@
 // P3: what making tells of flags.
 use crate::print::numbers;
-use crate::print::word;
+use cases::print::word;
 use handshake::SIZE;
 use handshake_rules::endpoint::Making;
 

@@ -3,6 +3,7 @@
 // to C9 and the flags hold of the definitions are theorems of `worked`.
 use bounds::show_bounds;
 use bounds::show_results;
+use cases::print::word;
 use epmd::ROOM;
 use epmd::SIZE;
 use flags::show_flags;
@@ -10,7 +11,6 @@ use handshake::ROOM as MESSAGE;
 use handshake::SIZE as ENDPOINT;
 use print::bytes;
 use print::first;
-use print::word;
 
 mod bounds;
 mod flags;

@@ -14,17 +14,26 @@ slice-aggregate-digest c =
 digest-requires : tie.Need-digest-requires
 digest-requires c κs = search needs
 
-print-decimal-requires : tie.Need-print-decimal-requires
-print-decimal-requires c κs = search needs
+number-requires : tie.Need-number-requires
+number-requires c κs = search needs
 
-slice-aggregate-write-all : tie.Need-slice-aggregate-write-all
-slice-aggregate-write-all c = search needs
+slice-aggregate-word : tie.Need-slice-aggregate-word
+slice-aggregate-word c = search needs
 
-write-all-requires : tie.Need-write-all-requires
-write-all-requires c κs = search needs
+word-requires : tie.Need-word-requires
+word-requires c κs = search needs
 
-print-requires : tie.Need-print-requires
-print-requires c κs = search needs
+slice-aggregate-bytes : tie.Need-slice-aggregate-bytes
+slice-aggregate-bytes c = search needs
+
+bytes-requires : tie.Need-bytes-requires
+bytes-requires c κs = search needs
+
+slice-aggregate-word-2 : tie.Need-slice-aggregate-word-2
+slice-aggregate-word-2 c = search needs
+
+word-requires-2 : tie.Need-word-requires-2
+word-requires-2 c κs = search needs
 
 returns : tie.Need-returns
 returns c = search needs
@@ -38,9 +47,12 @@ show-spec =
     (tie.spec
     slice-aggregate-digest
     digest-requires
-    print-decimal-requires
-    slice-aggregate-write-all
-    write-all-requires
-    print-requires
+    number-requires
+    slice-aggregate-word
+    word-requires
+    slice-aggregate-bytes
+    bytes-requires
+    slice-aggregate-word-2
+    word-requires-2
     returns
     returns-2)

@@ -5,34 +5,19 @@ use Rattle.utf8_table.proofs.print_all.Statement.{statement}
 use Rattle.utf8_table.proofs.print_all.Tie as tie
 
 abbrev Inv-loop : tie.InvT-loop
-Inv-loop s i₀ i = i ≤ length s
+Inv-loop s at₀ at = at ≤ length s
 
 abbrev μ-loop : tie.MeasureT-loop
-μ-loop s i₀ i = length s - i
+μ-loop s at₀ at = length s - at
 
 loop-holds : tie.Need-loop-holds Inv-loop μ-loop
 loop-holds c = search needs
 
-sub-loop : tie.Need-sub-loop Inv-loop μ-loop
-sub-loop c = search needs
-
-get16-requires : tie.Need-get16-requires Inv-loop μ-loop
-get16-requires c κs = search needs
-
-cast-n : tie.Need-cast-n Inv-loop μ-loop
-cast-n c = search needs
-
-add-i : tie.Need-add-i Inv-loop μ-loop
-add-i c = search needs
-
-sub-if1 : tie.Need-sub-if1 Inv-loop μ-loop
-sub-if1 c = search needs
+find-requires : tie.Need-find-requires Inv-loop μ-loop
+find-requires c κs = search needs
 
 returns : tie.Need-returns Inv-loop μ-loop
 returns c = search needs
-
-add-e : tie.Need-add-e Inv-loop μ-loop
-add-e c = search needs
 
 sub-print : tie.Need-sub-print Inv-loop μ-loop
 sub-print c = search needs
@@ -62,13 +47,8 @@ print-all-spec =
     Inv-loop
     μ-loop
     loop-holds
-    sub-loop
-    get16-requires
-    cast-n
-    add-i
-    sub-if1
+    find-requires
     returns
-    add-e
     sub-print
     part-print-start
     part-print-end

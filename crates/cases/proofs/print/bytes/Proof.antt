@@ -1,20 +1,14 @@
 use Prim.Native.Nat.{_≤_, _-_}
 use lib.ListN.{length}
 use borrow.Author.Needs.{needs}
-use Rattle.handshake_cases.proofs.bytes.Statement.{statement}
-use Rattle.handshake_cases.proofs.bytes.Tie as tie
+use Rattle.cases.proofs.print.bytes.Statement.{statement}
+use Rattle.cases.proofs.print.bytes.Tie as tie
 
 abbrev Inv-loop : tie.InvT-loop
 Inv-loop s i₀ i = i ≤ length s
 
 abbrev μ-loop : tie.MeasureT-loop
 μ-loop s i₀ i = length s - i
-
-slice-aggregate-word : tie.Need-slice-aggregate-word Inv-loop μ-loop
-slice-aggregate-word c = search needs
-
-word-requires : tie.Need-word-requires Inv-loop μ-loop
-word-requires c κs = search needs
 
 loop-holds : tie.Need-loop-holds Inv-loop μ-loop
 loop-holds c = search needs
@@ -46,8 +40,6 @@ bytes-spec =
     (tie.spec
     Inv-loop
     μ-loop
-    slice-aggregate-word
-    word-requires
     loop-holds
     shared-slice-read-wide
     wide-requires
