@@ -42,7 +42,13 @@ def test_flags(f, frees=False):
 
 
 def digest(challenge, cookie):
-    return hashlib.md5(str(challenge).encode() + cookie).digest()
+    return hashlib.md5(cookie + str(challenge).encode()).digest()
+
+
+def mistaken(challenge, cookie):
+    """Digests of texts that could be taken for the right one: the challenge first, a leading zero, either alone."""
+    text = str(challenge).encode()
+    return [hashlib.md5(wrong).digest() for wrong in (text + cookie, cookie + b"0" + text, text, cookie)]
 
 
 def framed(body):
@@ -463,18 +469,18 @@ def main():
         s.message(0, 1, framed(name_body(b"p@x")), look=False)
         s.message(0, 1, status_message(word))
         s.show(0, 2)
-    # awaits reply: not the challenge that the peer sent, not that of another slot
-    for challenge in (6, 88, 77, 0):
+    # awaits reply: not the challenge that the peer sent, not that of another slot, not another text
+    for proof in [digest(challenge, b"monster") for challenge in (6, 88, 77, 0)] + mistaken(88, b"monster"):
         stage(REPLY)
-        s.message(0, 2, framed(b"r" + struct.pack(">I", 6) + digest(challenge, b"monster")))
+        s.message(0, 2, framed(b"r" + struct.pack(">I", 6) + proof))
     # awaits status
     for word in (b"ok", b"ok_simultaneous", b"alive", b"nok", b"not_allowed", b"true", b"false", b"OK", b"ok_", b""):
         stage(STATUS)
         s.message(0, 2, status_message(word))
     # awaits acknowledgement
-    for challenge in (77, 6, 0):
+    for proof in [digest(challenge, b"monster") for challenge in (77, 6, 0)] + mistaken(77, b"monster"):
         stage(ACK)
-        s.message(0, 2, framed(b"a" + digest(challenge, b"monster")))
+        s.message(0, 2, framed(b"a" + proof))
     # the largest output: a name of 255 bytes, ok_simultaneous and the challenge
     long = b"m@" + b"x" * 253
     s.new(0, long)
