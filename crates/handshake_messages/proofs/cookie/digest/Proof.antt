@@ -61,11 +61,14 @@ returns c =
     let a = c .before .before .before .before .before .before .before .before .before .args in
     let k = a .cookie .now in
     let d = decimal (a .challenge) in
-    let put = c .before .before .before .put-decimal in
-    let m = length k + put .result in
-    c .digest .ensures
-    ∙ ap (λ (x : List ℕ). md5 (take m x)) (put .ensures .1 ∙ ap (λ (x : List ℕ). overwrite x (length k) d) (c .before .before .before .before .before .before .put-bytes .ensures))
-    ∙ ap md5 (joined (replicate {A = ℕ} 265 0) k d (length k) m refl (ap (λ (n : ℕ). length k + n) (put .ensures .0)))
+    let z = replicate {A = ℕ} 265 0 in
+    let copied = c .before .before .before .before .before .before .put-bytes in
+    let told = c .before .before .before .put-decimal in
+    let one : copied .last .0 ≡ overwrite z 0 k = copied .ensures in
+    let two : told .last .0 ≡ overwrite (overwrite z 0 k) (length k) d = told .ensures .1 ∙ ap (λ (x : List ℕ). overwrite x (length k) d) one in
+    let m = length k + told .result in
+    c .digest .ensures ∙ ap (λ (x : List ℕ). md5 (take m x)) two
+    ∙ ap md5 (joined z k d (length k) m refl (ap (λ (n : ℕ). length k + n) (told .ensures .0)))
 
 pub digest-spec : {M : Type 1} → statement M
 digest-spec =
