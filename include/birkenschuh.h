@@ -263,7 +263,8 @@ uint32_t bks_endpoint_close(bks_endpoint *e, uint32_t slot);
 
 /*
  * One frame on a slot. The challenge has to be fresh and not to be guessed; it is used where the answer holds a challenge of ours. The
- * cookie is the peer's own where that has any bytes, and the standard one otherwise.
+ * cookie is the peer's own where that has any bytes, and the standard one otherwise. Digests are Erlang/OTP's: MD5 of the cookie and,
+ * behind it, the challenge in decimal.
  */
 bks_answered bks_endpoint_message(bks_endpoint *e, uint32_t slot, const uint8_t *frame, size_t frame_len, uint32_t challenge,
                                   const uint8_t *own, size_t own_len, const uint8_t *standard, size_t standard_len,
