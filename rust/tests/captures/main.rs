@@ -2,16 +2,18 @@
 //!
 //! In these files a line `> hex` went from client to server, `< hex` back, and the comment above a
 //! handshake message says what its fields are; that comment is what the endpoint's reading is held
-//! against. Real nodes take the digest of cookie and challenge in this order; 01 has the challenge
-//! first. Digests are therefore not the real node's, and everything else is.
+//! against. What an endpoint writes is held against the frames themselves, digests included.
 
 #[path = "../common/mod.rs"]
 mod common;
 
 mod client;
+mod digests;
+mod exchange;
 mod flags;
 mod handshake;
 mod mapper;
+mod replay;
 mod seen;
 
 /// A file of frames.
