@@ -8,6 +8,7 @@
 mod common;
 
 mod client;
+mod digest_cases;
 mod digests;
 mod exchange;
 mod flags;
@@ -16,8 +17,13 @@ mod mapper;
 mod replay;
 mod seen;
 
+/// A file, by its path from the manifest's folder.
+fn read(path: &str) -> String {
+    let path = format!("{}/{path}", env!("CARGO_MANIFEST_DIR"));
+    std::fs::read_to_string(&path).unwrap_or_else(|error| panic!("{path}: {error}"))
+}
+
 /// A file of frames.
 fn text(file: &str) -> String {
-    let path = format!("{}/tests/captures/{file}.txt", env!("CARGO_MANIFEST_DIR"));
-    std::fs::read_to_string(&path).unwrap_or_else(|error| panic!("{path}: {error}"))
+    read(&format!("tests/captures/{file}.txt"))
 }
