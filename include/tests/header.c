@@ -1,7 +1,7 @@
 /*
  * The header from C and from C++: that the library is of its version, that structs lie as the library lays them out, 01's worked frames (by
- * bytes, and by a node's own calls), each Result of ALIVE2, a whole handshake, what is told of flags, empty runs, that a refusal writes
- * nothing, and that equal states are equal bytes. Compiled as C11 and as C++17.
+ * bytes, and by a node's own calls), each Result of ALIVE2, a whole handshake, one of real nodes, what is told of flags, empty runs, that a
+ * refusal writes nothing, and that equal states are equal bytes. Compiled as C11 and as C++17.
  */
 #include "birkenschuh.h"
 
@@ -229,6 +229,32 @@ static void handshake(void) {
     CHECK(own.flags == FLAGS && own.creation == 7 && own.name_len == 3 && memcmp(own.name, "a@b", 3) == 0 && own.name[3] == 0);
 }
 
+/* Two real nodes (OTP 25; hs_01 of rust/tests/captures): an endpoint for each is lent what the other sent, and writes what its own node sent. */
+#define NAME "\x00\x1aN\x00\x00\x00\x0d\x07\xdf\x7f\xbd\x6a\xf9\xc2\xda\x00\x0b" "b@127.0.0.1"
+#define CHALLENGE "\x00\x1eN\x00\x00\x00\x0d\x07\xdf\x7f\xbd\x49\xa0\x47\x51\x6a\xf9\xc2\xda\x00\x0b" "a@127.0.0.1"
+#define REPLY "\x00\x15r\xac\x60\xb7\x7d\x2e\x42\x3f\x09\x5b\x22\x96\x0a\x42\x5f\x54\xce\xb4\x19\x8e\x48"
+#define ACK "\x00\x11" "a\xf8\x69\xdf\xa7\x08\x8c\xf2\xef\x43\x1e\x26\x1e\xaf\x85\x42\x62"
+#define BYTES(text) text, sizeof(text) - 1
+
+static bool goes_to(uint32_t stage, bks_endpoint *e, uint32_t challenge, const char *frame, size_t len, const char *bytes, size_t written) {
+    uint8_t out[BKS_ENDPOINT_OUTPUT];
+    bks_answered x = flagless(bks_endpoint_message(e, 0, bytes_of(frame), len, challenge, NULL, 0, RUN("monster"), out, sizeof out));
+    return x.refusal == 0 && x.stage == stage && x.written == written && memcmp(out, bytes, written) == 0;
+}
+
+static void captured(void) {
+    static bks_endpoint a, b;
+    uint8_t out[BKS_ENDPOINT_OUTPUT];
+    CHECK(bks_endpoint_new(&a, RUN("a@127.0.0.1"), UINT64_C(0xd07df7fbd), 1794753242).refusal == 0 && bks_endpoint_arrive(&a).refusal == 0);
+    CHECK(bks_endpoint_new(&b, RUN("b@127.0.0.1"), UINT64_C(0xd07df7fbd), 1794753242).refusal == 0);
+    bks_started s = bks_endpoint_start(&b, RUN("a@127.0.0.1"), out, sizeof out);
+    CHECK(s.refusal == 0 && s.written == sizeof NAME - 1 && memcmp(out, NAME, sizeof NAME - 1) == 0);
+    CHECK(goes_to(BKS_AWAITS_REPLY, &a, 1235240785, BYTES(NAME), BYTES("\x00\x03sok" CHALLENGE)));
+    CHECK(goes_to(BKS_AWAITS_CHALLENGE, &b, 0, BYTES("\x00\x03sok"), BYTES("")));
+    CHECK(goes_to(BKS_AWAITS_ACK, &b, 2892019581, BYTES(CHALLENGE), BYTES(REPLY)));
+    CHECK(goes_to(BKS_CONNECTED, &a, 0, BYTES(REPLY), BYTES(ACK)) && goes_to(BKS_CONNECTED, &b, 0, BYTES(ACK), BYTES("")));
+}
+
 /* A slot that a message frees is told, answered or refused, and then holds what a free one holds. */
 static void ended(void) {
     static bks_endpoint e, fresh;
@@ -263,6 +289,7 @@ int main(void) {
     replies();
     names();
     handshake();
+    captured();
     ended();
     flags();
     puts(failed ? "header: failed" : "header: ok");

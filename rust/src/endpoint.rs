@@ -232,6 +232,9 @@ impl fmt::Debug for Endpoint {
 /// The cookies that a message may use: the peer's own if it has any bytes, otherwise the standard
 /// one. The cookie that is used must have 1 to 255 bytes.
 ///
+/// A side proves that it knows the cookie by the MD5 digest of the cookie's bytes followed by the
+/// other's challenge in decimal, as Erlang/OTP has it. No cookie is kept.
+///
 /// ```
 /// use birkenschuh::Cookies;
 ///

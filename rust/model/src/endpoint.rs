@@ -1,4 +1,4 @@
-//! 01, "The gate".
+//! 01, "The gate", with the digest of 02, P4.
 
 use crate::bytes::{Short, Writer};
 use crate::{md5, test_flags, Refusal, Slot, Stage};
@@ -66,10 +66,10 @@ pub fn is_full_name(name: &[u8]) -> bool {
         && matches!(parts, (Some(alive), Some(host), None) if !alive.is_empty() && !host.is_empty())
 }
 
-/// MD5 of the challenge as decimal text, followed by the cookie.
+/// MD5 of the cookie bytes followed by the challenge as decimal text.
 pub fn digest(challenge: u32, cookie: &[u8]) -> [u8; 16] {
-    let mut text = challenge.to_string().into_bytes();
-    text.extend_from_slice(cookie);
+    let mut text = cookie.to_vec();
+    text.extend(challenge.to_string().bytes());
     md5(&text)
 }
 

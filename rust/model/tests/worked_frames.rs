@@ -86,7 +86,7 @@ fn c7_and_c8_order_of_names() {
 
 #[test]
 fn c9_challenge_zero_is_one_digit() {
-    assert_eq!(model::digest(0, b"x"), model::md5(b"0x"));
+    assert_eq!(model::digest(0, b"x"), model::md5(b"x0"));
 }
 
 #[test]

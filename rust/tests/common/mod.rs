@@ -12,6 +12,16 @@ pub mod tally;
 
 use std::str::FromStr;
 
+use birkenschuh::Cookies;
+
+/// No peer has a cookie of its own.
+pub fn standard(cookie: &[u8]) -> Cookies<'_> {
+    Cookies {
+        own: b"",
+        standard: cookie,
+    }
+}
+
 /// What a word of a written call says.
 pub fn number<T: FromStr>(word: &str) -> Result<T, String> {
     word.parse().map_err(|_| format!("not a value: {word}"))

@@ -6,15 +6,6 @@ use crate::calls::Call;
 use crate::common::frames::*;
 use crate::reach::*;
 
-fn edited(call: &Call, edit: impl Fn(&mut crate::calls::Message)) -> Call {
-    let mut call = call.clone();
-    match &mut call {
-        Call::Message(message) => edit(message),
-        _ => unreachable!("only messages are edited"),
-    }
-    call
-}
-
 /// The tag that is not the stage's own is refused with 4, at each stage.
 #[test]
 fn tags() {

@@ -7,6 +7,7 @@ use model::{digest, Stage};
 use crate::calls::{Call, Message};
 use crate::common::frames::*;
 use crate::common::rng::Rng;
+use crate::cookies::{cookie, COOKIE_LENGTHS};
 use crate::fields::{bad_flags, broken_name, flags, full_name, good_flags, near};
 
 /// Status words that move an initiator on, and others.
@@ -33,8 +34,6 @@ const STAGES: [Stage; 6] = [
     Stage::AwaitsAck,
 ];
 
-const COOKIE_LENGTHS: [usize; 6] = [0, 1, 2, 254, 255, 256];
-
 /// What the calls of one sequence draw from.
 pub struct Generator {
     own_name: Vec<u8>,
@@ -54,12 +53,9 @@ impl Generator {
             peers.push(own_name.clone());
         }
         let cookies = [1, 2].map(|_| {
-            let length = if rng.chance(20) {
-                *rng.pick(&[1, 255])
-            } else {
-                1 + rng.below(30)
-            };
-            rng.bytes(length)
+            // Those of a length at the borders are made anew for each message.
+            let length = 3 + rng.below(30);
+            cookie(rng, length)
         });
         Generator {
             own_name,
@@ -223,12 +219,14 @@ impl Generator {
         cookie: &[u8],
     ) -> [u8; 16] {
         let mut proof = digest(at.challenge, cookie);
+        let text = at.challenge.to_string();
         match rng.below(40) {
             0 => proof[rng.below(16)] ^= 1 << rng.below(8),
             1 => proof = digest(number, cookie),
             2 => proof = digest(at.challenge, &self.cookies[rng.below(2)]),
             3 => proof = digest(model.slot(rng.below(SLOTS)).challenge, cookie),
-            4 => proof = model::md5(&[cookie, at.challenge.to_string().as_bytes()].concat()),
+            4 => proof = model::md5(&[text.as_bytes(), cookie].concat()),
+            5 => proof = model::md5(&[cookie, b"0", text.as_bytes()].concat()),
             _ => (),
         }
         proof
@@ -238,12 +236,13 @@ impl Generator {
     fn cookies(&self, rng: &mut Rng) -> (Vec<u8>, Vec<u8>) {
         let [usual, other] = self.cookies.clone();
         match rng.below(20) {
-            0 => (rng.bytes(1), usual),
-            1 => {
-                let lengths = (*rng.pick(&COOKIE_LENGTHS), *rng.pick(&COOKIE_LENGTHS));
-                (rng.bytes(lengths.0), rng.bytes(lengths.1))
+            0 => (cookie(rng, 1), usual),
+            1..=2 => {
+                let lengths = [1, 2].map(|_| *rng.pick(&COOKIE_LENGTHS));
+                let [own, standard] = lengths.map(|length| cookie(rng, length));
+                (own, standard)
             }
-            2..=5 => (usual, other),
+            3..=5 => (usual, other),
             6 => (usual, Vec::new()),
             _ => (Vec::new(), usual),
         }

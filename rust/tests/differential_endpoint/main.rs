@@ -6,6 +6,7 @@ mod common;
 
 mod borders;
 mod calls;
+mod cookies;
 mod face;
 mod fields;
 mod flags;
@@ -107,8 +108,14 @@ fn random_sequences() {
     for (call, flaw) in &flaws {
         tally.assert_share(flaw, FLAW_SHARE, call);
     }
+    let looks = cookies::counted();
+    for (right, look) in &looks {
+        tally.assert_share(look, cookies::LOOK_SHARE, right);
+    }
     let flaws = flaws.iter().map(|(_, flaw)| flaw.as_str());
-    tally.assert_nothing_but(expected().chain(flaws).chain(["calls", "messages"]));
+    let looks = looks.iter().flat_map(|(right, look)| [&right[..], look]);
+    let others = flaws.chain(looks).chain(["calls", "messages"]);
+    tally.assert_nothing_but(expected().chain(others));
 }
 
 /// Otherwise trying a second seed would say nothing.

@@ -5,6 +5,7 @@ use birkenschuh::{Own, Slot, Stage, Started, SLOTS};
 use crate::calls::{Call, Message};
 use crate::common::differ::{outputs, same, states, Compared};
 use crate::common::tally::Tally;
+use crate::cookies::count_right;
 use crate::face::Face;
 use crate::told::{flaw, Made, Numbers, Told};
 
@@ -153,6 +154,9 @@ impl Pair {
             Err(refusal) => Told::refused(refusal, ended),
         };
         same("the answer", told, told_expected)?;
+        if told.stage == Stage::Connected as u32 {
+            count_right(if own.is_empty() { standard } else { own }, tally);
+        }
         match told.numbers.refusal {
             0 => count(before, told, &self.expected, tally),
             _ => count_refusal(&format!("{before:?}"), told.numbers, flags(frame), tally),

@@ -31,6 +31,15 @@ pub fn message(slot: usize, frame: Vec<u8>) -> Call {
     })
 }
 
+/// A call with its message edited, if it is one.
+pub fn edited(call: &Call, edit: impl Fn(&mut Message)) -> Call {
+    let mut call = call.clone();
+    if let Call::Message(message) = &mut call {
+        edit(message);
+    }
+    call
+}
+
 pub fn start(name: &[u8]) -> Call {
     Call::Start {
         name: name.to_vec(),

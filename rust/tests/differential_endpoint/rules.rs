@@ -1,7 +1,7 @@
-//! Sequences that go straight to a rule of 01.
+//! Sequences that go straight to a rule of 01, or to the digest of 02, P4.
 
 use birkenschuh::{Stage, SLOTS};
-use model::digest;
+use model::{digest, md5};
 
 use crate::calls::Call;
 use crate::common::frames::*;
@@ -87,5 +87,63 @@ fn digests() {
         let tally = run(then(stage, turned.chain([good(stage)])));
         assert_eq!(tally.times(&format!("{stage:?}: refusal 15")), 2 * 128);
         assert_eq!(tally.times(&format!("{stage:?} -> Connected")), 2);
+    }
+}
+
+/// The text that is digested, and others that look like it. Some are the same: a signed number mostly,
+/// and the peer's challenge where ours is 0 as well.
+fn texts(challenge: u32, cookie: &[u8]) -> [Vec<u8>; 8] {
+    let behind = |text: &[u8]| [cookie, text].concat();
+    let text = challenge.to_string().into_bytes();
+    [
+        behind(&text),
+        behind((challenge as i32).to_string().as_bytes()),
+        behind(THEIRS.to_string().as_bytes()),
+        behind(&[b"0", &text[..]].concat()),
+        behind(&challenge.to_be_bytes()),
+        behind(b""),
+        [&text, cookie].concat(),
+        text,
+    ]
+}
+
+/// Calls that lend this challenge and this cookie. The last but one has the digest of the text, and the
+/// last finds what that made of the slot.
+fn proof(stage: Stage, challenge: u32, cookie: &[u8], text: &[u8]) -> Vec<Call> {
+    let frame = match stage {
+        Stage::AwaitsReply => reply(THEIRS, md5(text)),
+        _ => acknowledgement(md5(text)),
+    };
+    let (before, slot) = reach(stage);
+    let twice = vec![message(slot, frame); 2];
+    let lend = |call: &Call| {
+        edited(call, |message| {
+            (message.challenge, message.standard) = (challenge, cookie.to_vec());
+        })
+    };
+    [before, twice].concat().iter().map(lend).collect()
+}
+
+/// The cookie and then the challenge's text, at the borders of both.
+#[test]
+fn digested_texts() {
+    let cookies = [1, 54, 55, 56, 245, 246, 254, 255].map(|length| {
+        let mut cookies = [vec![b'c'; length], vec![b'c'; length]];
+        (cookies[0][length - 1], cookies[1][0]) = (b'7', 0);
+        cookies
+    });
+    for cookie in cookies.as_flattened() {
+        for stage in [Stage::AwaitsReply, Stage::AwaitsAck] {
+            let lists = [0, 9, 10, 99, u32::MAX].map(|challenge| {
+                let texts = texts(challenge, cookie);
+                texts.map(|text| proof(stage, challenge, cookie, &text))
+            });
+            let tally = run(lists.into_iter().flatten());
+            let (right, wrong) = (3 + 2 + 2 + 2 + 1, 5 + 6 + 6 + 6 + 7);
+            assert_eq!(tally.times(&format!("{stage:?} -> Connected")), 2 * right);
+            assert_eq!(tally.times("Connected: refusal 10"), 2 * right);
+            assert_eq!(tally.times(&format!("{stage:?}: refusal 15")), 2 * wrong);
+            assert_eq!(tally.times("Free: refusal 2"), 2 * wrong);
+        }
     }
 }

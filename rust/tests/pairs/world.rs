@@ -1,8 +1,9 @@
 //! Two endpoints, their hosts, and the connections between them, with every packet under control.
 
-use birkenschuh::{Answered, Cookies, Endpoint, Refusal, Slot, Stage, ENDPOINT_OUTPUT, SLOTS};
+use birkenschuh::{Answered, Endpoint, Refusal, Slot, Stage, ENDPOINT_OUTPUT, SLOTS};
 
 use crate::common::frames::{mend_length, GOOD_FLAGS};
+use crate::common::standard;
 use crate::common::tally::Tally;
 use crate::links::{Action, At, Fault, Left, Link, Packet};
 
@@ -18,14 +19,6 @@ pub struct World {
     pub links: Vec<Link>,
     pub left: Left,
     cookies: [&'static [u8]; 2],
-}
-
-/// No peer has a cookie of its own.
-fn standard(cookie: &[u8]) -> Cookies<'_> {
-    Cookies {
-        own: b"",
-        standard: cookie,
-    }
 }
 
 impl World {
