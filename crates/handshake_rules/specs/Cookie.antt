@@ -9,7 +9,7 @@ use Rattle.md5.specs.Md5.{md5}
 use Rattle.handshake_rules.specs.declared.endpoint.Stage.{Stage}
 use Rattle.handshake_rules.specs.declared.endpoint.Stage.the-variants.{Free, AwaitsName, AwaitsAlive, AwaitsReply, AwaitsStatus, AwaitsChallenge, AwaitsAck, Connected}
 
--- 02, P4: "MD5 of the cookie bytes followed by the decimal challenge text"
+-- 02, P4: "MD5 of the cookie bytes followed by the decimal challenge text"; 01: "decimal text without leading zeros"
 unfoldable pub digestOf : ℕ → List ℕ → List ℕ
 digestOf challenge cookie = md5 (cookie ++ decimal challenge)
 
