@@ -11,6 +11,7 @@ mod crowd;
 mod differences;
 mod flags;
 mod joined;
+mod log;
 mod node;
 mod nodes;
 mod restart;
