@@ -10,6 +10,7 @@ mod cases;
 mod crowd;
 mod differences;
 mod flags;
+mod handshakes;
 mod host;
 mod log;
 mod node;
