@@ -2,6 +2,7 @@
 
 mod connecting;
 mod cookies;
+mod digests;
 mod refusing;
 mod simultaneous;
 mod taken;
