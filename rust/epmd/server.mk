@@ -2,7 +2,7 @@
 #
 #   make program                  prove and build it
 #   make run ARGS='--port 4369'   prove, build and start it
-#   make check-interop            its tests, with real Erlang nodes and against the real epmd; and the flags of real nodes in handshakes
+#   make check-interop            its tests, with real Erlang nodes and against the real epmd; and whole handshakes with real nodes
 #   make bench-epmd               look-ups and registrations a second, against the real epmd
 
 PROGRAM := rust/target/release/birken-epmd

@@ -20,6 +20,19 @@ const LOOP: &str = "\
     end,
     Loop().";
 
+/// What nodes are started with.
+pub const COOKIE: &str = "monster";
+
+/// The name of a node on this machine, with its host.
+pub fn full_name(name: &str) -> String {
+    format!("{name}@127.0.0.1")
+}
+
+/// The expression that connects a node to the one of a full name.
+pub fn connect_node(name: &str) -> String {
+    format!("net_kernel:connect_node('{name}').")
+}
+
 pub struct Node {
     pub process: Process,
     answers: usize,
@@ -36,8 +49,8 @@ impl Node {
     pub fn spawn_as_usual(name: &str, port: u16, words: &[&str]) -> Node {
         let mut command = Command::new("erl");
         command
-            .args(["-noshell", "-setcookie", "monster"])
-            .args(["-name", &format!("{name}@127.0.0.1")])
+            .args(["-noshell", "-setcookie", COOKIE])
+            .args(["-name", &full_name(name)])
             .args(["-kernel", "inet_dist_use_interface", "{127,0,0,1}"])
             .args(["+S", "1:1", "-eval", LOOP])
             .args(words)
@@ -51,8 +64,12 @@ impl Node {
 
     /// Starts it and waits until it is up.
     pub fn start(name: &str, port: u16) -> Node {
-        let mut node = Node::spawn(name, port, &[]);
-        assert_eq!(node.eval("node()."), format!("'{name}@127.0.0.1'"));
+        Node::start_with(name, port, &[])
+    }
+
+    pub fn start_with(name: &str, port: u16, words: &[&str]) -> Node {
+        let mut node = Node::spawn(name, port, words);
+        assert_eq!(node.eval("node()."), format!("'{}'", full_name(name)));
         node
     }
 
@@ -69,15 +86,21 @@ impl Node {
 
     /// Its value.
     pub fn end(&mut self, expression: &str) -> String {
-        let answer = |process: &Process, at: usize| {
-            let lines = process.lines();
-            let mut values = lines.iter().filter_map(|line| line.strip_prefix("=> "));
-            values.nth(at).map(str::to_string)
-        };
-        let at = self.answers;
-        eventually(expression, || answer(&self.process, at).is_some());
+        let mut value = None;
+        eventually(expression, || {
+            value = self.answer();
+            value.is_some()
+        });
+        value.expect("seen before")
+    }
+
+    /// The value of the expression that was begun first and not ended yet, if it is there.
+    pub fn answer(&mut self) -> Option<String> {
+        let lines = self.process.lines();
+        let mut values = lines.iter().filter_map(|line| line.strip_prefix("=> "));
+        let value = values.nth(self.answers)?.to_string();
         self.answers += 1;
-        answer(&self.process, at).expect("seen before")
+        Some(value)
     }
 
     pub fn number(&mut self, expression: &str) -> u32 {

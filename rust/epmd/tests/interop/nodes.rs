@@ -2,6 +2,7 @@
 
 use std::process::Command;
 
+use crate::log::number_in;
 use crate::node::Node;
 use crate::support::*;
 
@@ -18,12 +19,6 @@ fn real_nodes_register_find_each_other_and_connect() {
     assert_eq!(b.eval(said), "'a@127.0.0.1'");
 }
 
-/// The port in a log line.
-fn port_of(line: &str) -> String {
-    let port = line.split("port=").nth(1).expect("a port");
-    port.split(' ').next().expect("a word").to_string()
-}
-
 #[test]
 #[ignore = "needs erl: make check-interop"]
 fn net_adm_names_and_epmd_names_list_the_nodes() {
@@ -31,11 +26,8 @@ fn net_adm_names_and_epmd_names_list_the_nodes() {
     let mut a = Node::start("a", mapper.port);
     let _b = Node::start("b", mapper.port);
     let [of_a, of_b] = ["a", "b"].map(|name| {
-        port_of(
-            &mapper
-                .process
-                .line_with(&format!("registered name={name} ")),
-        )
+        let registered = format!("registered name={name} ");
+        number_in(&mapper.process.line_with(&registered), "port")
     });
     let listed = format!("{{ok,[{{\"a\",{of_a}}},{{\"b\",{of_b}}}]}}");
     assert_eq!(

@@ -3,6 +3,7 @@
 use std::sync::Arc;
 use std::time::{Duration, Instant};
 
+use crate::log::number_in;
 use crate::node::Node;
 use crate::support::*;
 
@@ -10,12 +11,7 @@ use crate::support::*;
 fn creations(mapper: &Mapper) -> Vec<u32> {
     let lines = mapper.process.lines();
     let given = lines.iter().filter(|line| line.contains(" registered "));
-    given
-        .map(|line| {
-            let word = line.split(' ').find_map(|it| it.strip_prefix("creation="));
-            word.and_then(|it| it.parse().ok()).expect("a creation")
-        })
-        .collect()
+    given.map(|line| number_in(line, "creation")).collect()
 }
 
 fn nodes_return_after(signal: &str) -> Duration {

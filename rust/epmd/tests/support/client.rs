@@ -139,10 +139,15 @@ pub fn names(port: u16) -> Vec<String> {
 }
 
 /// Waits for something that is due soon.
-pub fn eventually(what: &str, mut holds: impl FnMut() -> bool) {
+pub fn eventually(what: &str, holds: impl FnMut() -> bool) {
+    eventually_by(Duration::from_millis(10), what, holds);
+}
+
+/// Looks for it with pauses of one's own.
+pub fn eventually_by(pause: Duration, what: &str, mut holds: impl FnMut() -> bool) {
     let end = Instant::now() + PATIENCE;
     while !holds() {
         assert!(Instant::now() < end, "not within {PATIENCE:?}: {what}");
-        std::thread::sleep(Duration::from_millis(10));
+        std::thread::sleep(pause);
     }
 }

@@ -5,11 +5,13 @@
 #![allow(dead_code, unused_imports)]
 
 mod client;
+mod folder;
 mod namespace;
 mod process;
 mod system;
 
 pub use client::*;
+pub use folder::*;
 pub use namespace::*;
 pub use process::*;
 pub use system::*;

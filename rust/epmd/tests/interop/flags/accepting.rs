@@ -1,57 +1,53 @@
 //! Real nodes that we call.
 
-use birkenschuh::{FlagFlaw, Refusal, Stage, REQUIRED_FLAGS};
+use birkenschuh::{FlagFlaw, Refusal, REQUIRED_FLAGS};
 
 use super::sets::SETS;
 use super::*;
 
 /// A real node takes these flags from us, and its own, told in its challenge, are good here.
-fn takes(node: &Node, port: u16, ours: &str, flags: u64, told: u64) {
-    let mut joined = Joined::start(ours, flags, REAL, port);
-    let status = joined.step().expect("a status");
-    assert_eq!(status.frame, b"\x00\x03sok", "{flags:#x}");
-    let challenge = joined.step().expect("a challenge");
-    let answered = challenge.answer.expect("good flags");
-    assert_eq!((answered.stage, answered.written), (Stage::AwaitsAck, 23));
-    assert_eq!(joined.peer().flags, told, "{flags:#x}");
-    // Its digest is of another order.
-    assert!(joined.step().is_none(), "an answer to our reply");
-    let rejected = format!("from node '{ours}' rejected. Invalid challenge reply");
-    node.process.line_with(&rejected);
+fn takes(mapper: &Mapper, ours: &str, flags: u64, told: u64) {
+    let mut host = Host::with_flags(mapper, ours, flags);
+    host.call("real").expect("a start");
+    host.settle();
+    assert_eq!(host.story(0), STARTED, "{flags:#x}");
+    assert_eq!(host.connected()[0].flags, told, "{flags:#x}");
 }
 
 /// A real node says `not_allowed` to these flags, closes, and logs what they lack.
-fn declines(node: &Node, port: u16, ours: &str, flags: u64) {
-    let mut joined = Joined::start(ours, flags, REAL, port);
-    let status = joined.step().expect("a status");
-    assert_eq!(status.frame, b"\x00\x0csnot_allowed", "{flags:#x}");
-    assert_eq!(status.answer, Err(freed(Refusal::Declined)));
-    assert!(joined.step().is_none(), "more than a status");
-    let attempt = format!("from node '{ours}' rejected");
+fn declines(mapper: &Mapper, node: &Node, ours: &str, flags: u64) {
+    let mut host = Host::with_flags(mapper, ours, flags);
+    host.call("real").expect("a start");
+    host.settle();
+    assert_eq!(host.story(0), ["snot_allowed > refused 16"], "{flags:#x}");
+    assert_eq!(status(mapper, host.name(), flags), "not_allowed");
+    let attempt = format!("from node '{}' rejected", host.name());
     assert_eq!(cannot_handle(node, &attempt), lacking(flags));
 }
 
-/// What it says to flags that no endpoint can be made with.
-fn status(port: u16, ours: &str, flags: u64) -> Vec<u8> {
-    let mut stream = send(port, &name_message(flags, 7, ours));
-    read_frame(&mut stream).expect("a status")
+/// What it says to a name message of any flags. Where that is not `ok`, nothing else.
+fn status(mapper: &Mapper, ours: &str, flags: u64) -> String {
+    let mut stream = send(port_of(mapper.port, "real"), &name_message(flags, 7, ours));
+    let status = read_frame(&mut stream).expect("a status");
+    assert_eq!(status[2], b's');
+    let word = text(&status[3..]);
+    assert!(word == "ok" || read_frame(&mut stream).is_none(), "{word}");
+    word
 }
 
 #[test]
 #[ignore = "needs erl: make check-interop"]
 fn a_real_node_that_is_called_takes_what_the_document_says() {
-    let (_mapper, node, port) = real(&[]);
+    let (mapper, node) = real(&[]);
     for (at, set) in SETS.into_iter().enumerate() {
-        let ours = format!("c{at}@127.0.0.1");
+        let ours = format!("c{at}");
         match (set.here, set.called) {
-            ("good", "ok") => takes(&node, port, &ours, set.flags, VISIBLE),
-            ("good", _) => declines(&node, port, &ours, set.flags),
-            (_, word) => assert_eq!(
-                status(port, &ours, set.flags),
-                frame(&[b"s", word.as_bytes()].concat()),
-                "{:#x}",
-                set.flags
-            ),
+            ("good", "connected") => takes(&mapper, &ours, set.flags, VISIBLE),
+            ("good", _) => declines(&mapper, &node, &ours, set.flags),
+            (_, word) => {
+                let told = status(&mapper, &full_name(&ours), set.flags);
+                assert_eq!(told, word, "{:#x}", set.flags);
+            }
         }
     }
 }
@@ -60,14 +56,14 @@ fn a_real_node_that_is_called_takes_what_the_document_says() {
 #[test]
 #[ignore = "needs erl: make check-interop"]
 fn a_real_node_demands_eleven_flags() {
-    let (_mapper, mut node, port) = real(&[]);
+    let (mapper, mut node) = real(&[]);
     let told = node.eval("{_, _, Mandatory, _, _, _} = erts_internal:get_dflags(), Mandatory.");
     assert_eq!(told, demanded().to_string());
     let mut tried = Vec::new();
     for (bit, _) in DEMANDED {
         let flags = (REQUIRED_FLAGS | demanded()) & !(1 << bit);
         if flags & REQUIRED_FLAGS == REQUIRED_FLAGS {
-            declines(&node, port, &format!("n{bit}@127.0.0.1"), flags);
+            declines(&mapper, &node, &format!("n{bit}"), flags);
             tried.push(bit);
         }
     }
@@ -77,16 +73,17 @@ fn a_real_node_demands_eleven_flags() {
 #[test]
 #[ignore = "needs erl: make check-interop"]
 fn a_hidden_node_takes_and_demands_the_same() {
-    let (_mapper, node, port) = real(&["-hidden"]);
-    takes(&node, port, "y@127.0.0.1", WITH_26, HIDDEN);
-    declines(&node, port, "n@127.0.0.1", REQUIRED_FLAGS);
+    let (mapper, node) = real(&["-hidden"]);
+    takes(&mapper, "y", WITH_26, HIDDEN);
+    declines(&mapper, &node, "n", REQUIRED_FLAGS);
 }
 
 /// A node without a name of its own asks for one by bit 33. Who gives it one sets the bit too.
 #[test]
 #[ignore = "needs erl: make check-interop"]
 fn a_real_node_answers_bit_33_with_bit_33_which_is_refused_here() {
-    let (_mapper, _node, port) = real(&[]);
+    let (mapper, _node) = real(&[]);
+    let port = port_of(mapper.port, "real");
     let mut stream = send(port, &name_message(NAMELESS, 0, "127.0.0.1"));
     let status = read_frame(&mut stream).expect("a status");
     assert!(status[2..].starts_with(b"snamed:"), "{status:?}");
@@ -94,7 +91,7 @@ fn a_real_node_answers_bit_33_with_bit_33_which_is_refused_here() {
     assert_eq!(challenge[3..11], NAMELESS.to_be_bytes());
 
     let mut out = [0; ENDPOINT_OUTPUT];
-    let mut ours = endpoint("ours@127.0.0.1", WITH_26);
+    let mut ours = endpoint();
     let mut after = |frames: [&[u8]; 2]| {
         let slot = ours.start(REAL.as_bytes(), &mut out)?.slot;
         ours.message(slot, frames[0], 0, COOKIES, &mut out)?;

@@ -1,30 +1,30 @@
 //! Which flags real nodes send in a handshake and which they take, and what the proved endpoint says
-//! of theirs: the rows of docs/INTEROP.md.
-//!
-//! No handshake here ends in a connection: real nodes take the digest of cookie and challenge in this
-//! order, 01 has the challenge first. So a reply ends each of them, refused by its reader. Flags are
-//! looked at before.
+//! of theirs: the rows of docs/INTEROP.md. Where both take each other's, they end connected.
 
 mod accepting;
 mod calling;
 mod sets;
 
-use birkenschuh::{Answered, Refusal, Refused, ENDPOINT_OUTPUT};
+use birkenschuh::{Answered, Cookies, Endpoint, Refusal, Refused, ENDPOINT_OUTPUT};
 
-use crate::joined::*;
-use crate::node::Node;
+use crate::host::*;
+use crate::node::{connect_node, full_name, Node, COOKIE};
+use crate::raw::*;
 use crate::support::*;
 
 const REAL: &str = "real@127.0.0.1";
 
-/// The required flags and DFLAG_MANDATORY_25_DIGEST, which real nodes have at bit 26.
-const WITH_26: u64 = 0x4_0700_0104;
 /// What a real node sends.
-const VISIBLE: u64 = 0xd_07df_7fbd;
+pub const VISIBLE: u64 = 0xd_07df_7fbd;
 /// What a hidden one sends: without PUBLISHED.
 const HIDDEN: u64 = VISIBLE & !1;
 /// What a nameless one sends, and what answers it.
 const NAMELESS: u64 = HIDDEN | 1 << 33;
+
+const COOKIES: Cookies<'static> = Cookies {
+    own: b"",
+    standard: COOKIE.as_bytes(),
+};
 
 /// What OTP 25 demands where bit 26 is clear, and calls by these names.
 const DEMANDED: [(u32, &str); 11] = [
@@ -61,16 +61,13 @@ fn freed(refusal: Refusal) -> Refused {
     }
 }
 
-/// A real node on a mapper, called "real", and where it listens.
-fn real(words: &[&str]) -> (Mapper, Node, u16) {
+/// A real node on a mapper, called "real".
+pub fn real(words: &[&str]) -> (Mapper, Node) {
     let mapper = Mapper::start(&[]);
-    let mut node = Node::spawn("real", mapper.port, words);
-    assert_eq!(node.eval("node()."), format!("'{REAL}'"));
+    let mut node = Node::start_with("real", mapper.port, words);
     let release = node.eval("erlang:system_info(otp_release).");
     assert_eq!(release, "\"25\"", "each release has flags of its own");
-    let told = ask(mapper.port, &port_please2("real"));
-    let port = u16::from_be_bytes([told[2], told[3]]);
-    (mapper, node, port)
+    (mapper, node)
 }
 
 /// What the peer of a connection attempt cannot handle, by the node's log.
@@ -94,9 +91,13 @@ fn cannot_handle(node: &Node, attempt: &str) -> Vec<String> {
     names
 }
 
+fn endpoint() -> Endpoint {
+    Endpoint::new(b"ours@127.0.0.1", WITH_26, 7).expect("good flags")
+}
+
 /// What an endpoint makes of a name message.
 fn answer_to(name: &[u8]) -> Result<Answered, Refused> {
-    let mut endpoint = endpoint("ours@127.0.0.1", WITH_26);
+    let mut endpoint = endpoint();
     let slot = endpoint.arrive().expect("a free slot");
     endpoint.message(slot, name, 2_026, COOKIES, &mut [0; ENDPOINT_OUTPUT])
 }

@@ -12,9 +12,9 @@ const DOCUMENT: &str = include_str!("../../../../../docs/INTEROP.md");
 #[derive(Debug, PartialEq, Eq, PartialOrd, Ord)]
 pub struct Set {
     pub flags: u64,
-    /// By a real node that we call: its status.
+    /// By a real node that we call: its status, where that does not lead to a connection.
     pub called: &'static str,
-    /// By a real node that calls us: what it does behind our challenge.
+    /// By a real node that calls us: what it does behind our challenge, likewise.
     pub calls: &'static str,
     /// By an endpoint: whether they are good, or what it tells.
     pub here: &'static str,
@@ -31,11 +31,11 @@ const fn set(flags: u64, called: &'static str, calls: &'static str, here: &'stat
 
 pub const SETS: [Set; 10] = [
     set(0x4_0300_0104, "not_allowed", "closes", "good"),
-    set(WITH_26, "ok", "replies", "good"),
-    set(0x4_0700_012c, "ok", "replies", "good"),
-    set(0x4_0307_0f94, "ok", "replies", "good"),
-    set(VISIBLE, "ok", "replies", "good"),
-    set(HIDDEN, "ok", "replies", "good"),
+    set(WITH_26, "connected", "connected", "good"),
+    set(0x4_0700_012c, "connected", "connected", "good"),
+    set(0x4_0307_0f94, "connected", "connected", "good"),
+    set(VISIBLE, "connected", "connected", "good"),
+    set(HIDDEN, "connected", "connected", "good"),
     set(0x14_0300_0104, "not_allowed", "closes", "good"),
     set(0x107_0f94, "ok", "replies", "9: 2 missing, the lowest 25"),
     set(0x400_0000, "ok", "replies", "9: 5 missing, the lowest 2"),
