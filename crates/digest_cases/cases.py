@@ -1,9 +1,9 @@
 #!/usr/bin/env python3
 """Writes stdin and stdout beside itself: challenges with cookies, and the digest of each.
 
-Two other implementations gave what is expected. The digests of real nodes (Erlang/OTP 25) are the
-bytes that they sent, taken from the captures; all others are those of Python's hashlib, which gives
-the captured ones too."""
+Two other implementations gave what is expected. The digests of captured handshakes are the bytes
+that nodes of Erlang/OTP 25 and their peers sent; all others are those of Python's hashlib, which
+gives the captured ones too."""
 import hashlib
 import pathlib
 import re
@@ -29,7 +29,7 @@ def digest(challenge, cookie):
 
 
 def pattern(n):
-    """Printable bytes, in which no two lengths begin alike."""
+    """Printable bytes, which repeat after 94."""
     return bytes(33 + (n + 31 * i) % 94 for i in range(n))
 
 

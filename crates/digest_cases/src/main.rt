@@ -2,8 +2,8 @@
 // the digest.
 //
 // stdin has challenges with cookies as cases. cases.py makes it, and makes stdout from what other
-// implementations gave: the digests that nodes of Erlang/OTP 25 were seen to send, and those of
-// Python's hashlib.
+// implementations gave: digests of captured handshakes, as nodes of Erlang/OTP 25 and their peers sent
+// them, and those of Python's hashlib.
 ghost use Prim.Native.Nat.{_≤_};
 ghost use lib.ListN.{length};
 use cases::print::bytes;
