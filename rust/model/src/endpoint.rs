@@ -68,9 +68,8 @@ pub fn is_full_name(name: &[u8]) -> bool {
 
 /// MD5 of the cookie bytes followed by the challenge as decimal text.
 pub fn digest(challenge: u32, cookie: &[u8]) -> [u8; 16] {
-    let mut text = cookie.to_vec();
-    text.extend(challenge.to_string().bytes());
-    md5(&text)
+    let digits = challenge.to_string();
+    md5(&[cookie, digits.as_bytes()].concat())
 }
 
 impl Endpoint {
