@@ -65,8 +65,8 @@ def record(case):
 def main():
     cases = [*captured(), *made()]
     records = [record(struct.pack(">I", challenge) + cookie) for challenge, cookie, _ in cases]
-    # nothing is printed of a case without a whole challenge, of a cookie of 256 bytes, and of a case that is cut short
-    for silent in (b"", bytes(3), bytes(260)):
+    # nothing is printed of a case without a whole challenge, of a cookie of 0 or 256 bytes, and of a case that is cut short
+    for silent in (b"", bytes(3), bytes(4), bytes(260)):
         records.insert(1, record(silent))
     records.append(record(b"1234monster")[:-1])
     (HERE / "stdin").write_bytes(b"".join(records))

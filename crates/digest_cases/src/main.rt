@@ -25,9 +25,9 @@ fn show_digest(challenge: u32, cookie: &[u8])
     word(b"\n");
 }
 
-// A challenge in four bytes, and a cookie of at most 255 behind it; else there is nothing to print.
+// A challenge in four bytes, and a cookie of 1 to 255 behind it; else there is nothing to print.
 fn show(case: &[u8]) {
-    if case.len() < 4 {
+    if case.len() < 5 {
         return;
     }
     if case.len() <= 259 {

@@ -65,6 +65,20 @@ fn where_our_name_is_greater_our_call_remains() {
     assert_eq!(host.story(0), given_up);
 }
 
+/// Whether the calls crossed. If so, the connection that the greater name started is the one.
+fn have_crossed(host: &mut Host) -> bool {
+    let story = [host.story(0), host.story(1)].concat();
+    let [started, accepted] =
+        [STARTED[2], ACCEPTED[1]].map(|it| story.iter().any(|line| line == it));
+    assert_ne!(started, accepted, "{story:?}");
+    let both = |line: &String| line.contains("simultaneous") || line.contains("nok");
+    let crossed = story.iter().any(both);
+    if crossed {
+        assert_eq!(started, *host.name() > *full_name("real"), "{story:?}");
+    }
+    crossed
+}
+
 /// Both begin at about the same moment, and read what comes as it comes.
 fn rounds(mapper: &Mapper, node: &mut Node, ours: &str) {
     const ROUNDS: u32 = 20;
@@ -76,9 +90,7 @@ fn rounds(mapper: &Mapper, node: &mut Node, ours: &str) {
         thread::sleep(Duration::from_micros(50) * round);
         host.call_at("real", port).expect("a start");
         one_remains(&mut host, node);
-        let story = [host.story(0), host.story(1)].concat();
-        let both = |line: &String| line.contains("simultaneous") || line.contains("nok");
-        crossed += usize::from(story.iter().any(both));
+        crossed += usize::from(have_crossed(&mut host));
         match round % 2 {
             0 => host.close("real"),
             _ => {
