@@ -73,6 +73,11 @@ def sequences():
     for b in (0x00, 0x40, 0x80, 0xC3):
         yield b"a" * 254 + bytes([b])
         yield bytes([b]) + b"a" * 254
+    # other bytes at every place of a plain name, which is passed eight bytes and more at a time
+    for n in (7, 8, 9, 15, 16, 17, 24, 33, 48):
+        for other in (b"\x00", b"@", b"\x80", "\u00e4".encode()):
+            for at in range(n - len(other) + 1):
+                yield b"a" * at + other + b"a" * (n - at - len(other))
 
 
 here = os.path.dirname(os.path.abspath(__file__))

@@ -1,5 +1,6 @@
-// Puts the rule of a node's name to byte sequences at every boundary of RFC 3629's table, and to
-// names at the bounds of length, and prints each with the answer.
+// Puts the rule of a node's name to byte sequences at every boundary of RFC 3629's table, to names at
+// the bounds of length, and to plain names with other bytes at each place, and prints each with the
+// answer.
 //
 // stdin has the sequences as cases. sequences.py makes it, and makes stdout from the answers of
 // Python's own decoder.
