@@ -3,7 +3,7 @@
 use super::rng::Rng;
 
 /// Well-formed UTF-8 at the borders of RFC 3629's table.
-const GOOD: [&[u8]; 14] = [
+pub const GOOD: [&[u8]; 14] = [
     b"a",
     b"\x01",
     b"\x7f",
@@ -21,7 +21,7 @@ const GOOD: [&[u8]; 14] = [
 ];
 
 /// Just beyond those borders, cut short, or what a name may not have.
-const BAD: [&[u8]; 16] = [
+pub const BAD: [&[u8]; 16] = [
     b"\0",
     b"@",
     b"\x80",
@@ -42,20 +42,21 @@ const BAD: [&[u8]; 16] = [
 
 const NAME_LENGTHS: [usize; 9] = [0, 1, 2, 253, 254, 255, 256, 257, 300];
 
-/// A name of pieces at UTF-8's borders, of a length at the rule's borders; sometimes not a name.
+/// A name of plain bytes, of pieces at UTF-8's borders, or of both, of a length at the rule's borders; sometimes not a name.
 pub fn name(rng: &mut Rng) -> Vec<u8> {
     let length = if rng.chance(30) {
         *rng.pick(&NAME_LENGTHS)
     } else {
-        1 + rng.below(12)
+        1 + rng.below(40)
     };
     let mut name = Vec::new();
-    let plain = rng.chance(50);
+    // In a hundred.
+    let pieces = *rng.pick(&[0, 0, 4, 100, 100]);
     while name.len() < length {
-        let piece = if plain {
-            &[b'a' + rng.below(26) as u8][..]
-        } else {
+        let piece = if rng.chance(pieces) {
             rng.pick(&GOOD)
+        } else {
+            &[b'a' + rng.below(26) as u8][..]
         };
         let fits = name.len() + piece.len() <= length;
         name.extend_from_slice(if fits { piece } else { b"z" });
