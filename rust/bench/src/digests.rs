@@ -1,4 +1,4 @@
-//! MD5 against plain C at -O3 and OpenSSL's, and the name rule against the standard library's UTF-8 check.
+//! MD5 against plain C at -O3 and OpenSSL's.
 
 use crate::timing::{row, Contender};
 use std::hint::black_box;
@@ -78,38 +78,6 @@ pub fn md5() {
                     name: "OpenSSL",
                     run: &mut || {
                         black_box(openssl.md5(black_box(&text)));
-                    },
-                },
-            ],
-        );
-    }
-}
-
-pub fn names() {
-    let plain = vec![b'r'; 255];
-    let mixed: Vec<u8> = "aé漢𝄞".bytes().cycle().take(250).chain(*b"abcde").collect();
-    for (case, name) in [("255 plain bytes", plain), ("255 mixed bytes", mixed)] {
-        assert_eq!(name.len(), 255);
-        assert!(birkenschuh::is_node_name(&name) && std::str::from_utf8(&name).is_ok());
-        row(
-            &format!("node name, {case}"),
-            &mut [
-                Contender {
-                    name: "ours",
-                    run: &mut || {
-                        black_box(birkenschuh::is_node_name(black_box(&name)));
-                    },
-                },
-                Contender {
-                    name: "core::str::from_utf8 (UTF-8 alone)",
-                    run: &mut || {
-                        black_box(std::str::from_utf8(black_box(&name)).is_ok());
-                    },
-                },
-                Contender {
-                    name: "independent implementation",
-                    run: &mut || {
-                        black_box(model::is_node_name(black_box(&name)));
                     },
                 },
             ],

@@ -6,6 +6,7 @@ mod client;
 mod digests;
 mod handshake;
 mod mapper;
+mod names;
 mod plain;
 mod timing;
 
@@ -13,7 +14,7 @@ fn main() {
     println!("| case | ours, ns | peer | peer, ns | ratio |");
     println!("|---|---|---|---|---|");
     digests::md5();
-    digests::names();
+    names::names();
     mapper::mapper();
     client::requests();
     client::replies();
