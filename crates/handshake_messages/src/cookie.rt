@@ -51,7 +51,7 @@ pub fn digest(challenge: u32, cookie: &[u8]) -> [u8; 16]
     wire::put_bytes(&mut text, 0, cookie);
     let n = cookie.len();
     let m = n + wire::put_decimal(&mut text, n, challenge);
-    md5::digest(&text[..m])
+    md5_digest::digest(&text[..m])
 }
 
 // Whether these sixteen bytes are the digest of a challenge.

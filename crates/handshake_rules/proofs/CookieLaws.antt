@@ -7,7 +7,7 @@ use lib.ListN.{length, take, drop, length-append}
 use lib.Seq.{take_at}
 use Rattle.wire.specs.Output.{overwrite, written}
 use Rattle.wire.proofs.OutputLaws.{written_two}
-use Rattle.md5.specs.Md5.{md5}
+use Rattle.md5_digest.specs.Md5.{md5}
 use Rattle.handshake_rules.specs.Cookie.{digest_of, chosen}
 
 pub digest_sixteen : (c : ℕ) (k : List ℕ) → length (digest_of c k) ≡ 16

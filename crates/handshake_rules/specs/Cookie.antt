@@ -1,7 +1,7 @@
 -- 01, The gate: cookies and the digest.
 use Rattle.std.specs.Prelude.{ℕ, Bool, true, ◌&&◌, List, [], ◌∷◌, ◌++◌, map, length, leb}
 use Rattle.wire.specs.Decimal.{decimal}
-use Rattle.md5.specs.Md5.{md5}
+use Rattle.md5_digest.specs.Md5.{md5}
 use Rattle.handshake_rules.specs.declared.endpoint.Stage.{Stage}
 use Rattle.handshake_rules.specs.declared.endpoint.Stage.TheVariants.{Free, AwaitsName, AwaitsAlive, AwaitsReply, AwaitsStatus, AwaitsChallenge, AwaitsAck, Connected}
 

@@ -11,7 +11,7 @@ fn fill(text: &mut [u8]) {
 
 fn show(text: &[u8], n: usize) {
     if n <= text.len() {
-        let d = md5::digest(&text[..n]);
+        let d = md5_digest::digest(&text[..n]);
         number(n as u64);
         word(b" ");
         bytes(&d);

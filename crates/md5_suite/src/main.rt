@@ -5,7 +5,7 @@ fn show(text: &[u8]) {
     word(b"MD5 (\"");
     word(text);
     word(b"\") = ");
-    let d = md5::digest(text);
+    let d = md5_digest::digest(text);
     bytes(&d);
     word(b"\n");
 }

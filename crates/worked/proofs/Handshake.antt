@@ -7,7 +7,7 @@ use Rattle.wire.specs.Frame.{framed, is_frame, body}
 use Rattle.wire.specs.Lookup.{first_at}
 use Rattle.names.specs.Full.{full_name}
 use Rattle.names.specs.Held.{name_of, name_bytes}
-use Rattle.md5.specs.Md5.{md5, process, pad, with_bits, compress, add, initial, run, op, ◌<<<◌, block}
+use Rattle.md5_digest.specs.Md5.{md5, process, pad, with_bits, compress, add, initial, run, op, ◌<<<◌, block}
 use Rattle.handshake_rules.specs.Flags.{flag_test}
 use Rattle.handshake_rules.specs.Messages.{name_message, challenge_message, status_message, reply_message, ack_message}
 use Rattle.handshake_rules.specs.Cookie.{digest_of, allowed, fit}

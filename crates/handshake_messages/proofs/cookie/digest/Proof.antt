@@ -1,5 +1,5 @@
 -- The decimal text has at most ten characters, so that it fits behind the cookie; what is digested is the two side by side.
-use Rattle.md5.specs.Md5.{md5}
+use Rattle.md5_digest.specs.Md5.{md5}
 use Rattle.wire.specs.Output.{overwrite}
 use lib.Seq.{length-take-le}
 use lib.ListN.{take, replicate}

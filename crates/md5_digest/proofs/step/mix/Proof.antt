@@ -1,0 +1,20 @@
+-- `mix` meets its contract: each return rewrites with the tests that led there.
+-- Assumes nothing.
+use Rattle.std.proofs.Common.{le-ltb, lt-ltb}
+use Rattle.md5_digest.proofs.step.mix.Statement.{statement}
+use Rattle.md5_digest.proofs.step.mix.Tie as tie
+
+returns : tie.Need-returns
+returns c = simp (lt-ltb _ _ c.if1.true)
+
+returns-2 : tie.Need-returns-2
+returns-2 c = simp (le-ltb _ _ c.before.if1.false, lt-ltb _ _ c.if2.true)
+
+returns-3 : tie.Need-returns-3
+returns-3 c = simp (le-ltb _ _ c.before.before.if1.false, le-ltb _ _ c.before.if2.false, lt-ltb _ _ c.if3.true)
+
+returns-4 : tie.Need-returns-4
+returns-4 c = simp (le-ltb _ _ c.before.before.if1.false, le-ltb _ _ c.before.if2.false, le-ltb _ _ c.if3.false)
+
+pub mix-spec : {M : Type 1} → statement M
+mix-spec = tie.close (tie.spec returns returns-2 returns-3 returns-4)
