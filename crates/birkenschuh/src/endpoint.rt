@@ -14,7 +14,7 @@ use names::Name;
 // Beside 9 how many required flags are missing, and the lowest of them by its bit, or 0 and 33; beside
 // all else both are 0. So in `Answered`.
 #[repr(C)]
-#[derive(Drop)]
+#[derive(Clone, Copy)]
 pub struct Made {
     pub refusal: u32,
     pub missing: u32,
@@ -22,7 +22,7 @@ pub struct Made {
 }
 
 #[repr(C)]
-#[derive(Drop)]
+#[derive(Clone, Copy)]
 pub struct Started {
     pub refusal: u32,
     pub slot: u32,
@@ -30,14 +30,14 @@ pub struct Started {
 }
 
 #[repr(C)]
-#[derive(Drop)]
+#[derive(Clone, Copy)]
 pub struct Arrived {
     pub refusal: u32,
     pub slot: u32,
 }
 
 #[repr(C)]
-#[derive(Drop)]
+#[derive(Clone, Copy)]
 pub struct Answered {
     pub refusal: u32,
     pub stage: u32,
@@ -50,7 +50,7 @@ pub struct Answered {
 
 // A slot's record; the name's bytes are zero behind its length.
 #[repr(C)]
-#[derive(Drop)]
+#[derive(Clone, Copy)]
 pub struct SlotSeen {
     pub stage: u32,
     pub creation: u32,
@@ -62,7 +62,7 @@ pub struct SlotSeen {
 
 // What an endpoint tells of itself; the name's bytes are zero behind its length.
 #[repr(C)]
-#[derive(Drop)]
+#[derive(Clone, Copy)]
 pub struct Own {
     pub flags: u64,
     pub creation: u32,

@@ -11,7 +11,7 @@ use handshake_rules::refusal::{Refusal, Why};
 const NO_SLOT: usize = 32;
 
 // What an answer tells, and `ended`: 1 if a message that is answered so leaves the slot named free.
-#[derive(Drop)]
+#[derive(Clone, Copy)]
 pub struct Numbers {
     pub why: Why,
     pub slot: u32,

@@ -14,7 +14,7 @@ pub(crate) const LEAST: u8 = 2;
 
 pub(crate) const SEVERAL: u8 = 3;
 
-#[derive(Drop)]
+#[derive(Clone, Copy)]
 pub struct Tally {
     pub kind: u8,
     pub lines: u16,

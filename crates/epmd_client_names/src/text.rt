@@ -8,7 +8,7 @@ pub(crate) const NAME_WORD: usize = 5;
 const PORT_WORD: usize = 9;
 
 // What follows a name: ` at port `, the port and a newline, with the place behind them.
-#[derive(Drop)]
+#[derive(Clone, Copy)]
 pub enum Tail {
     Missing,
     Found { port: u16, next: usize },

@@ -6,7 +6,7 @@ use crate::reply::{Alive2Reply, LineAt, Listing, NamesReply, Part, Port2, Port2R
 
 // Result is 0 where the node is registered, and creation is 0 where it is not.
 #[repr(C)]
-#[derive(Drop)]
+#[derive(Clone, Copy)]
 pub struct Alive2Numbers {
     pub refusal: u32,
     pub tag: u32,
@@ -16,7 +16,7 @@ pub struct Alive2Numbers {
 
 // Beside a refusal, or a Result above 0, the fields are 0.
 #[repr(C)]
-#[derive(Drop)]
+#[derive(Clone, Copy)]
 pub struct Port2Numbers {
     pub refusal: u32,
     pub result: u32,
@@ -30,7 +30,7 @@ pub struct Port2Numbers {
 }
 
 #[repr(C)]
-#[derive(Drop)]
+#[derive(Clone, Copy)]
 pub struct NamesNumbers {
     pub refusal: u32,
     pub port: u16,

@@ -2,7 +2,7 @@
 use crate::unreadable::Unreadable;
 
 // ALIVE2_X_RESP (118) or ALIVE2_RESP (121): the creation, from 121 the short one; or a Result above 0.
-#[derive(Drop)]
+#[derive(Clone, Copy)]
 pub enum Alive2Reply {
     Refused(Unreadable),
     Failed { tag: u8, result: u8 },
@@ -10,7 +10,7 @@ pub enum Alive2Reply {
 }
 
 // PORT2_RESP: what is registered, or a Result above 0.
-#[derive(Drop)]
+#[derive(Clone, Copy)]
 pub enum Port2Reply {
     Refused(Unreadable),
     Failed { result: u8 },
@@ -19,14 +19,14 @@ pub enum Port2Reply {
 
 // A part of a reply: where in it the part begins, and how many bytes it has.
 #[repr(C)]
-#[derive(Drop)]
+#[derive(Clone, Copy)]
 pub struct Part {
     pub at: u32,
     pub len: u32,
 }
 
 // The fields of PORT2_RESP. Name and extra are parts of the reply.
-#[derive(Drop)]
+#[derive(Clone, Copy)]
 pub struct Port2 {
     pub port: u16,
     pub kind: u8,
@@ -38,7 +38,7 @@ pub struct Port2 {
 }
 
 // Whether a NAMES reply was read.
-#[derive(Drop)]
+#[derive(Clone, Copy)]
 pub enum Listing {
     Listed,
     Refused(Unreadable),
@@ -46,7 +46,7 @@ pub enum Listing {
 
 // A line of NAMES: where in the reply its name begins, how many bytes it has, and the port.
 #[repr(C)]
-#[derive(Drop)]
+#[derive(Clone, Copy)]
 pub struct LineAt {
     pub at: u32,
     pub len: u32,
@@ -55,7 +55,7 @@ pub struct LineAt {
 
 // NAMES: the mapper's own port and the lines, zero behind the count; all zero beside a refusal. An
 // enum cannot hold an array, so the answer stands beside what it tells.
-#[derive(Drop)]
+#[derive(Clone, Copy)]
 pub struct NamesReply {
     pub listing: Listing,
     pub port: u16,

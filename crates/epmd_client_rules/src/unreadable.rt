@@ -3,7 +3,7 @@ ghost use Rattle.epmd_client_rules.specs.Answers.{unreadable_number};
 
 // Why a reply is not read: another tag, a length that disagrees (NAMES: no reading at all), more
 // readings than one.
-#[derive(Drop)]
+#[derive(Clone, Copy)]
 pub enum Unreadable {
     WrongTag,
     WrongLength,

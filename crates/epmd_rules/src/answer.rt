@@ -4,14 +4,14 @@ ghost use Rattle.epmd_rules.specs.Answers as spec;
 use crate::refusal::Refusal;
 
 // Whether a registry was made.
-#[derive(Drop)]
+#[derive(Clone, Copy)]
 pub enum Making {
     Ready,
     Refused(Refusal),
 }
 
 // What a call tells: the count written, or the refusal.
-#[derive(Drop)]
+#[derive(Clone, Copy)]
 pub enum Answer {
     Written(usize),
     Refused(Refusal),
@@ -19,7 +19,7 @@ pub enum Answer {
 
 // 01's number and values for an answer, for a host that cannot hold the enum: 0 is no refusal.
 #[repr(C)]
-#[derive(Drop)]
+#[derive(Clone, Copy)]
 pub struct Numbers {
     pub refusal: u32,
     pub written: usize,

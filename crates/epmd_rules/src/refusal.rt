@@ -2,7 +2,7 @@ ghost use Rattle.std.specs.Prelude.{◌≡◌};
 ghost use Rattle.epmd_rules.specs.Requests.{refusal_number};
 
 // Why a call is refused (01, Numbers that a refused caller sees).
-#[derive(Drop)]
+#[derive(Clone, Copy)]
 pub enum Refusal {
     OutputTooShort,
     NotAFrame,

@@ -3,7 +3,7 @@ use names::Name;
 // The extra bytes of a registration, zero behind the length. A length above 128 counts all of them,
 // so every value of the type is in range.
 #[repr(C)]
-#[derive(Drop)]
+#[derive(Clone, Copy)]
 pub struct Extra {
     pub bytes: [u8; 128],
     pub len: u8,
@@ -12,7 +12,7 @@ pub struct Extra {
 // One registration (01's "place"): what a node told the mapper of itself, or nothing. `kind` is the
 // node type; the end of `connection` is the end of the registration.
 #[repr(C)]
-#[derive(Drop)]
+#[derive(Clone, Copy)]
 pub struct Registration {
     pub name: Name,
     pub extra: Extra,

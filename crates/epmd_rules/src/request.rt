@@ -1,7 +1,7 @@
 use crate::refusal::Refusal;
 
 // What a frame asks for.
-#[derive(Drop)]
+#[derive(Clone, Copy)]
 pub enum Request {
     Refused(Refusal),
     Alive2,

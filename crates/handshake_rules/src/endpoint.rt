@@ -5,7 +5,7 @@ use crate::refusal::Refusal;
 use names::Name;
 
 // Free is the first: what is read past the end of an array is free.
-#[derive(Drop)]
+#[derive(Clone, Copy)]
 pub enum Stage {
     Free,
     AwaitsName,
@@ -19,7 +19,7 @@ pub enum Stage {
 
 // One connection: its stage, the peer's name, flags and creation, and the challenge that we sent. It
 // holds no byte of a cookie and none of a digest.
-#[derive(Drop)]
+#[derive(Clone, Copy)]
 pub struct Slot {
     pub stage: Stage,
     pub name: Name,
@@ -29,21 +29,21 @@ pub struct Slot {
 }
 
 // Whether an endpoint was made.
-#[derive(Drop)]
+#[derive(Clone, Copy)]
 pub enum Making {
     Ready,
     NotMade(Refusal),
 }
 
 // Another slot that a message freed.
-#[derive(Drop)]
+#[derive(Clone, Copy)]
 pub enum Freed {
     Nothing,
     At(usize),
 }
 
 // What a call tells. `count` is how many bytes it wrote.
-#[derive(Drop)]
+#[derive(Clone, Copy)]
 pub enum Answer {
     Refused(Refusal),
     Begun {
@@ -63,7 +63,7 @@ pub enum Answer {
 
 // Which slots are sought: any that is free, or, by the peer's name, an accepted one in progress, a
 // started one in progress, a connected one, any that is taken.
-#[derive(Drop)]
+#[derive(Clone, Copy)]
 pub enum Sought {
     AnyFree,
     AcceptedFrom,

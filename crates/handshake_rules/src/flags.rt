@@ -4,13 +4,13 @@ ghost use Rattle.handshake_rules.specs.Flags.{flaw_count, flaw_bit};
 
 // Why flags are not good: how many required bits are missing and the lowest of them by its number; or,
 // where none is missing, that bit 33 (DFLAG_NAME_ME: a dynamic name is asked for) is set.
-#[derive(Drop)]
+#[derive(Clone, Copy)]
 pub enum FlagFlaw {
     Missing { count: u32, lowest: u32 },
     NameMe,
 }
 
-#[derive(Drop)]
+#[derive(Clone, Copy)]
 pub enum FlagTest {
     Good,
     Bad(FlagFlaw),

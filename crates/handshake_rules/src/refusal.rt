@@ -3,7 +3,7 @@ ghost use Rattle.handshake_rules.specs.Refusals.{why_of, message_fate, is_free};
 
 use crate::flags::FlagFlaw;
 
-#[derive(Drop)]
+#[derive(Clone, Copy)]
 pub enum Refusal {
     OutputTooShort,
     SlotNotTaken,
@@ -22,7 +22,7 @@ pub enum Refusal {
 }
 
 // What a list of tests comes to: none holds, or the first that does.
-#[derive(Drop)]
+#[derive(Clone, Copy)]
 pub enum Check {
     Pass,
     Refuse(Refusal),
@@ -30,7 +30,7 @@ pub enum Check {
 
 // What a refused caller sees: the number and, beside 9, how many required flags are missing and the
 // lowest of them by its bit, or 0 and 33. Beside all else both are 0.
-#[derive(Drop)]
+#[derive(Clone, Copy)]
 pub struct Why {
     pub number: u32,
     pub missing: u32,

@@ -5,7 +5,7 @@ ghost use Rattle.md5_digest.specs.Md5.{◌<<<◌};
 ghost use Rattle.md5_digest.specs.Step.{auxiliary, Before, Operation};
 
 // The buffer: the four words A, B, C and D.
-#[derive(Drop)]
+#[derive(Clone, Copy)]
 pub(crate) struct State {
     pub(crate) a: u32,
     pub(crate) b: u32,

@@ -6,7 +6,7 @@ ghost use Rattle.script_lines.specs.Line.{starts_with, conn_item, hex_item, item
 
 use crate::text::{all_digits, is_hex, leads_zero};
 
-#[derive(Drop)]
+#[derive(Clone, Copy)]
 pub enum Item {
     Op,
     Conn(u32),

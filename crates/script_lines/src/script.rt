@@ -18,7 +18,7 @@ use epmd::{ROOM, SIZE};
 
 // The line that is awaited; with the frame, the connection that it comes from. Nothing: the run has
 // ended.
-#[derive(Drop)]
+#[derive(Clone, Copy)]
 pub enum Awaits {
     Operation,
     Connection,
@@ -27,7 +27,7 @@ pub enum Awaits {
 }
 
 // What a line has the run do.
-#[derive(Drop)]
+#[derive(Clone, Copy)]
 pub(crate) enum Plan {
     Await(Awaits),
     Serve(u32),
@@ -36,7 +36,7 @@ pub(crate) enum Plan {
 }
 
 // What a step tells: the line that is awaited next, and how many bytes are to be printed.
-#[derive(Drop)]
+#[derive(Clone, Copy)]
 pub(crate) struct Stepped {
     pub(crate) awaits: Awaits,
     pub(crate) written: usize,
@@ -44,7 +44,7 @@ pub(crate) struct Stepped {
 
 // What was taken from a part of the input: the line that is awaited next, how many characters of a
 // line are now held, where the part goes on, and how many bytes are to be printed.
-#[derive(Drop)]
+#[derive(Clone, Copy)]
 pub struct Taken {
     pub awaits: Awaits,
     pub held: usize,
