@@ -1,16 +1,11 @@
 -- A refusal other than 9 tells its number alone. Assumes nothing.
-use Prim.Native.Nat.{ℕ}
 use mathlib.Core.Path.{◌≡◌, refl}
 use mathlib.Core.Bool.{false}
-use mathlib.Core.List.{List, [], ◌∷◌}
 use lib.Dec.{eqb}
-use types.Run.{OneOf, miss}
-use denote.Enum.Declared.{tag_of}
 use Rattle.handshake_rules.specs.declared.flags.FlagFlaw.{FlagFlaw}
 use Rattle.handshake_rules.specs.declared.refusal.Refusal.{Refusal}
 use Rattle.handshake_rules.specs.declared.refusal.Refusal.TheVariants.{OutputTooShort, SlotNotTaken, NotAFrame, UnknownTag, BadLength, BadName, BadFlags, AlreadyConnected, BadCookie, PeerTaken, NoFreeSlot, UnknownStatus, WrongDigest, Declined}
 use Rattle.handshake_rules.specs.Refusals.{only, why_of}
-use Rattle.handshake_rules.specs.contracts.refusal.Refusal.{the_type}
 
 -- a refusal tells its number alone, or it is 9 and carries a flaw
 pub data Told : Refusal → Type 0 where
@@ -33,13 +28,9 @@ told UnknownStatus = number_only UnknownStatus refl refl
 told WrongDigest = number_only WrongDigest refl refl
 told Declined = number_only Declined refl refl
 
--- the variants but that of 9, as a match counts them
-abbrev pub others : List ℕ
-others = 0 ∷ 1 ∷ 2 ∷ 3 ∷ 4 ∷ 5 ∷ 7 ∷ 8 ∷ 9 ∷ 10 ∷ 11 ∷ 12 ∷ 13 ∷ []
-
-pub other : (r : Refusal) → OneOf others (tag_of the_type r) → why_of r ≡ only (why_of r).number
+pub other : (r : Refusal) → ((w : FlagFlaw) → r ≡ BadFlags w → ⊥) → why_of r ≡ only (why_of r).number
 other r h = by (told r) h
   where
-    by : {r : Refusal} → Told r → OneOf others (tag_of the_type r) → why_of r ≡ only (why_of r).number
+    by : {r : Refusal} → Told r → ((w : FlagFlaw) → r ≡ BadFlags w → ⊥) → why_of r ≡ only (why_of r).number
     by (number_only q e n) h = e
-    by (with_flags w) h = absurd (miss others 6 tt h)
+    by (with_flags w) h = absurd (h w refl)
