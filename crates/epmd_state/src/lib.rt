@@ -3,6 +3,8 @@
 //
 // A `requires` here is one that the mapper's own calls meet: the length of the state, and a place
 // below 64.
+#![tactic(auto)]
+
 pub mod entry;
 pub mod find;
 pub mod head;
