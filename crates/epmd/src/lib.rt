@@ -3,6 +3,8 @@
 //
 // Every call says answer, registry and all output bytes by one definition of epmd_rules. No call of
 // `calls` has a `requires`; a refusal writes nothing and changes nothing.
+#![tactic(auto)]
+
 pub mod calls;
 mod replies;
 mod result;
