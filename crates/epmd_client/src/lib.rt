@@ -4,6 +4,8 @@
 //
 // Every call says its answer, and a writer all output bytes too, by one definition of
 // epmd_client_rules. No public call has a `requires`; a refusal writes nothing.
+#![tactic(auto)]
+
 mod replies;
 mod requests;
 

@@ -11,6 +11,8 @@
 //
 // The tables of the tallies are on the stack: 17,601 places of three bytes. The time grows with the
 // text's length times 255, the longest name.
+#![tactic(auto)]
+
 mod read;
 mod survey;
 mod tally;
