@@ -19,7 +19,6 @@ use Rattle.epmd_rules.specs.Requests.{◌else◌, first_refusal, tag}
 use Rattle.epmd_rules.specs.Replies.{short_creation, creation_field, alive2_reply, port2_with, port2_found, port2_missing}
 use Rattle.epmd_rules.specs.Claims.{NumbersHeld}
 use Rattle.epmd_client_rules.specs.declared.unreadable.Unreadable.TheVariants.{WrongTag, WrongLength}
-use Rattle.epmd_client_rules.specs.declared.reply.Alive2Reply.TheVariants as alive2
 use Rattle.epmd_client_rules.specs.declared.reply.Port2.{Port2}
 use Rattle.epmd_client_rules.specs.declared.reply.Port2Reply.TheVariants as port2
 use Rattle.epmd_client_rules.specs.Replies.{result_in, name_in, extra_in, fields_in, port2_long, alive2_read, port2_read}

@@ -30,7 +30,6 @@ use Rattle.epmd_rules.proofs.ServeLaws.{call_asked, alive2_fails, alive2_fills, 
 use Rattle.epmd_rules.proofs.Found.{asked_found}
 use Rattle.epmd_rules.proofs.Reachable.{always_sound, registered_found, extra_back}
 use Rattle.epmd_client_rules.specs.declared.unreadable.Unreadable.TheVariants.{Ambiguous}
-use Rattle.epmd_client_rules.specs.declared.reply.Alive2Reply.TheVariants as alive2
 use Rattle.epmd_client_rules.specs.declared.reply.Port2Reply.TheVariants as port2
 use Rattle.epmd_client_rules.specs.Replies.{alive2_read}
 use Rattle.epmd_client_rules.specs.declared.reply.NamesReply.{NamesReply}

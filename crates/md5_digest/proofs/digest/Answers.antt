@@ -1,6 +1,6 @@
 -- `digest` meets its contract. The loop's invariant: s is the state after the first i blocks of the padded text.
 -- Assumes nothing.
-use Rattle.std.proofs.Common.{◌≡◌, ℕ, ◌+◌, ◌-◌, ◌/◌, ◌%◌, List, length, refl, ap, ◌∙◌, add-one, arith, rules}
+use Rattle.std.proofs.Common.{◌≡◌, ℕ, ◌+◌, ◌/◌, ◌%◌, List, length, refl, ap, ◌∙◌, add-one, arith, rules}
 use Rattle.md5_digest.specs.Md5.{pad, block, compress, initial, process, output, md5}
 use Rattle.md5_digest.proofs.Blocks.{pad_length, pad_blocks}
 use Rattle.md5_digest.proofs.digest.Goals as goal

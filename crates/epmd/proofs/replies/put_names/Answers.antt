@@ -1,4 +1,4 @@
-use Prim.Native.Nat.{ℕ, ◌+◌, ◌-◌}
+use Prim.Native.Nat.{ℕ, ◌+◌}
 use mathlib.Core.Path.{◌≡◌, ap, subst, ◌∙◌}
 use native.Mathlib.Omega.{arith}
 use lib.ListN.{length}
@@ -44,5 +44,5 @@ returns c =
     let e : l.i ≡ places = omega arith in
     let b = c.put32.ensures ∙ ap (λ (p : ℕ). overwrite a.out.now 0 (be 4 p)) c.port.ensures in
     let w = all_sofar g a.out.now c.put32.new.out l.out l.at (here_long a.state.now) b
-        (subst (λ (i : ℕ). Sofar g.registrations i c.put32.new.out l.out l.at) e l.invariant.3) in
+    (subst (λ (i : ℕ). Sofar g.registrations i c.put32.new.out l.out l.at) e l.invariant.3) in
     record { value = w.0; out_after = w.1 }

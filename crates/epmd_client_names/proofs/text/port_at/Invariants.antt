@@ -1,4 +1,4 @@
-use Prim.Native.Nat.{◌+◌, ◌-◌, ◌≤◌}
+use Prim.Native.Nat.{◌+◌, ◌≤◌}
 use mathlib.Core.Path.{◌≡◌}
 use Rattle.epmd_client_names.specs.Text.{port_from, port_at}
 use Rattle.epmd_client_names.proofs.text.port_at.Given as goal

@@ -1,5 +1,4 @@
 use mathlib.Core.Path.{sym}
-use Prim.Native.Nat.{◌-◌}
 use Rattle.epmd_state.proofs.BytesLaws.{empty_last}
 use Rattle.epmd_state.proofs.find.last_of.Goals as goal
 

@@ -17,6 +17,7 @@ use Rattle.handshake_messages.proofs.flags.flag_test.Goals as goal
 
 lacks : (f : ℕ) → f < 2 ^ 64 → bit_and (mask 0 required) (18446744073709551615 - f) ≡ mask 0 (missing required f)
 lacks f h = lacking required 63 f rising under h
+
 -- the first argument: those missing
 
 told : (m : List ℕ) (asked : Bool) → Under 63 m → (mask 0 m ≡ 0 → ⊥) → Bad (Missing (ones (mask 0 m)) (count_trailing_zeros 64 (mask 0 m))) ≡ test_of m asked

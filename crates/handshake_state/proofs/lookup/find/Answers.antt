@@ -4,7 +4,7 @@ use Rattle.handshake_rules.specs.Endpoint.{sought, free_slot}
 use Rattle.handshake_state.specs.Bytes.{slots_in, slot_by, endpoint_of}
 use Rattle.wire.proofs.LookupLaws.{first_skip, first_hit, first_end}
 use lib.ListN.{length, get_or}
-use Prim.Native.Nat.{◌<◌, ◌-◌}
+use Prim.Native.Nat.{◌<◌}
 use native.Mathlib.Omega.{arith}
 use mathlib.Core.Path.{◌≡◌, sym, ◌∙◌, ap}
 use mathlib.Core.List.{List}

@@ -1,6 +1,6 @@
 -- `last` meets its contract. The loop's invariant: b shows the text, its padding bits and the first k bytes of its length.
 -- Assumes nothing.
-use Rattle.std.proofs.Common.{◌≡◌, ℕ, ◌+◌, ◌-◌, ◌*◌, ◌%◌, ◌^◌, List, ◌++◌, length, take, set, sym, subst, arith, rules}
+use Rattle.std.proofs.Common.{◌≡◌, ℕ, ◌+◌, ◌*◌, ◌%◌, ◌^◌, List, ◌++◌, length, take, set, sym, subst, arith, rules}
 use Rattle.md5_digest.specs.Md5.{bytes, with_bits, pad}
 use Rattle.md5_digest.specs.Step.{Shows}
 use Rattle.md5_digest.proofs.Blocks.{bits_length, pad_length, shows_later, shows_first, shows_next, shows_block}

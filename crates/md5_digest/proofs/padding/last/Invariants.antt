@@ -1,4 +1,4 @@
-use Rattle.std.proofs.Common.{◌+◌, ◌-◌, ◌*◌, ◌%◌, ◌^◌, ◌≤◌, ◌++◌, length, take}
+use Rattle.std.proofs.Common.{◌-◌, ◌*◌, ◌%◌, ◌^◌, ◌≤◌, ◌++◌, length, take}
 use Rattle.md5_digest.specs.Md5.{bytes, with_bits}
 use Rattle.md5_digest.specs.Step.{Shows}
 use Rattle.md5_digest.proofs.padding.last.Given as goal

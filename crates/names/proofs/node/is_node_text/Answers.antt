@@ -1,5 +1,4 @@
 -- `is_node_text` meets its contract: the rule on the whole run is the rule on what is left of it.
-use Prim.Native.Nat.{◌-◌}
 use mathlib.Core.Path.{sym, ◌∙◌}
 use native.Mathlib.Omega.{arith}
 use Rattle.names.proofs.NodeLaws.{text_end}

@@ -1,5 +1,4 @@
 -- `walk` meets its contract: the rule on what is behind i is the rule on what is behind j.
-use Prim.Native.Nat.{◌-◌}
 use mathlib.Core.Path.{refl, ◌∙◌}
 use native.Mathlib.Omega.{arith}
 use lib.ListN.{get_or}

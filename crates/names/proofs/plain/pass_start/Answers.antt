@@ -6,11 +6,11 @@ use Rattle.names.proofs.plain.pass_start.Goals as goal
 
 pub returns-then-is_plain : goal.returns-then-is_plain
 returns-then-is_plain c = record {
-      onward = omega arith;
-      inside = omega arith;
-      passed = λ k l m. plain_get c.args.s.now (sym c.is_plain.ensures ∙ c.if-is_plain.true) k m;
-      stops = λ h. absurd (omega arith);
-    }
+  onward = omega arith;
+  inside = omega arith;
+  passed = λ k l m. plain_get c.args.s.now (sym c.is_plain.ensures ∙ c.if-is_plain.true) k m;
+  stops = λ h. absurd (omega arith);
+}
 
 pub returns-then-n-lt8 : goal.returns-then-n-lt8
 returns-then-n-lt8 c = record { onward = omega arith; inside = omega arith; passed = plain_none c.args.s.now 0; stops = λ h. absurd (omega arith) }

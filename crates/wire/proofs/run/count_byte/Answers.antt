@@ -12,7 +12,7 @@ loop-i-preserved c =
     let i = c.loop-i.i in
     let h : i < length a.s.now = omega arith in
     elim c.if-s-i.branch [
-      then-s-i w ↦ let e = count_hit a.b a.s.now i h w.if-s-i.true in omega arith
+      | then-s-i w ↦ let e = count_hit a.b a.s.now i h w.if-s-i.true in omega arith
       | else-s-i w ↦ let e = count_miss a.b a.s.now i h w.if-s-i.false in omega arith
     ]
 

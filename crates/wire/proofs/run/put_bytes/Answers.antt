@@ -1,5 +1,4 @@
 -- `wire::put_bytes` meets its contract: the first i bytes are pasted. Assumes nothing.
-use Prim.Native.Nat.{◌-◌}
 use mathlib.Core.Path.{◌≡◌, ap, ◌∙◌}
 use borrow.Author.Rules.{rules}
 use native.Mathlib.Omega.{arith}

@@ -1,5 +1,4 @@
 -- `wire::same_bytes` meets its contract: whether the whole runs are equal is whether the rests are. Assumes nothing.
-use Prim.Native.Nat.{◌-◌}
 use mathlib.Core.Path.{sym, ap, ◌∙◌}
 use native.Mathlib.Omega.{arith}
 use borrow.Author.Rules.{rules}
