@@ -1,26 +1,29 @@
-// What a program writes to its standard output. No contract can say what is written; it is compared
-// with the program's stdout.
-use libc::STDOUT_FILENO;
+// What a program writes. Nothing says what reaches a program's standard output: that is compared
+// with its stdout.
+use std::io;
+use std::io::Write;
 
 fn wide(b: u8) -> u64 {
     b as u64
 }
 
 // Bytes as they stand.
-pub fn word(text: &[u8]) {
-    io::write_all(STDOUT_FILENO, text);
+pub fn word(to: &mut impl Write, text: &[u8]) -> io::Result<()> {
+    to.write_all(text)
 }
 
 // A number in decimal.
-pub fn number(n: u64) {
-    io::print_decimal(STDOUT_FILENO, n);
+pub fn number(to: &mut impl Write, n: u64) -> io::Result<()> {
+    write!(to, "{n}")
 }
 
 // Bytes in hexadecimal, two digits each.
-pub fn bytes(s: &[u8]) {
+pub fn bytes(to: &mut impl Write, s: &[u8]) -> io::Result<()> {
     let mut i = 0;
     while i < s.len() {
-        io::print_hex(STDOUT_FILENO, wide(s[i]), 2);
+        let b = wide(s[i]);
+        write!(to, "{b:02x}")?;
         i += 1;
     }
+    Ok(())
 }

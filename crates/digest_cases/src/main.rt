@@ -4,51 +4,61 @@
 // stdin has challenges with cookies as cases. cases.py makes it, and makes stdout from what other
 // implementations gave: digests of captured handshakes, as nodes of Erlang/OTP 25 and their peers sent
 // them, and those of Python's hashlib.
+#![tactic(auto)]
+
 ghost use Rattle.std.specs.Prelude.{◌≤◌, length};
 
 use cases::print::{bytes, number, word};
 use cases::record;
 use handshake_messages::cookie::digest;
-use libc::STDIN_FILENO;
+use std::io;
+use std::io::{BufWriter, Read, Write};
 
-fn show_digest(challenge: u32, cookie: &[u8])
+// How much of stdin is read.
+const SPACE: u64 = 65536;
+
+fn show_digest(to: &mut impl Write, challenge: u32, cookie: &[u8]) -> io::Result<()>
     requires { length cookie.now ≤ 255 }
 {
-    number(challenge as u64);
-    word(b" ");
-    bytes(cookie);
-    word(b" ");
+    number(to, challenge as u64)?;
+    word(to, b" ")?;
+    bytes(to, cookie)?;
+    word(to, b" ")?;
     let d = digest(challenge, cookie);
-    bytes(&d);
-    word(b"\n");
+    bytes(to, &d)?;
+    word(to, b"\n")
 }
 
 // A challenge in four bytes, and a cookie of 1 to 255 behind it; else there is nothing to print.
-fn show(case: &[u8]) {
+fn show(to: &mut impl Write, case: &[u8]) -> io::Result<()> {
     if case.len() < 5 {
-        return;
+        return Ok(());
     }
     if case.len() <= 259 {
-        show_digest(wire::get32(case, 0), &case[4..]);
+        show_digest(to, wire::get32(case, 0), &case[4..])?;
     }
+    Ok(())
 }
 
-fn show_all(s: &[u8]) {
+fn show_all(to: &mut impl Write, s: &[u8]) -> io::Result<()> {
     let mut at = 0;
     while at < s.len() {
         let r = record::find(s, at);
         let start = r.start;
         let end = r.end;
         if end <= at {
-            return;
+            return Ok(());
         }
-        show(&s[start..end]);
+        show(to, &s[start..end])?;
         at = end;
     }
+    Ok(())
 }
 
-fn main() {
-    let mut space = io::large_buffer();
-    let n = io::read_full(STDIN_FILENO, &mut space);
-    show_all(&space[..n]);
+fn main(rt: HostRuntime) -> io::Result<()> {
+    let mut input = Vec::new(rt.alloc());
+    rt.stdin().take(SPACE).read_to_end(&mut input)?;
+    let mut to = BufWriter::new(rt.alloc(), rt.stdout())?;
+    show_all(&mut to, input.as_slice())?;
+    to.flush()
 }

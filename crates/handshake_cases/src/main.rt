@@ -2,6 +2,8 @@
 // whole handshakes, a case for every refusal and one for every rule of every stage.
 //
 // stdin has the calls as cases. cases.py makes it, and makes stdout from a model of its own.
+#![tactic(auto)]
+
 ghost use Rattle.std.specs.Prelude.{◌≡◌, ◌≤◌, length};
 
 use cases::print::word;
@@ -9,72 +11,76 @@ use cases::record;
 use handshake::{SIZE, calls};
 use handshake_rules::endpoint::{Answer, Freed, Making};
 use handshake_rules::refusal::Refusal;
-use libc::STDIN_FILENO;
 use read::{byte, num16, num32, num64, part};
+use std::io;
+use std::io::{BufWriter, Read, Write};
 
 mod read;
+
+// How much of stdin is read.
+const SPACE: u64 = 65536;
 
 fn wide(b: u8) -> u64 {
     b as u64
 }
 
-fn number(n: u64) {
-    word(b" ");
-    cases::print::number(n);
+fn number(to: &mut impl Write, n: u64) -> io::Result<()> {
+    word(to, b" ")?;
+    cases::print::number(to, n)
 }
 
-fn bytes(s: &[u8]) {
-    word(b" ");
-    cases::print::bytes(s);
+fn bytes(to: &mut impl Write, s: &[u8]) -> io::Result<()> {
+    word(to, b" ")?;
+    cases::print::bytes(to, s)
 }
 
-fn freed_number(freed: Freed) {
+fn freed_number(to: &mut impl Write, freed: Freed) -> io::Result<()> {
     match freed {
-        Freed::Nothing => word(b" -"),
-        Freed::At(slot) => number(slot as u64),
+        Freed::Nothing => word(to, b" -"),
+        Freed::At(slot) => number(to, slot as u64),
     }
 }
 
-fn tell_refusal(refusal: Refusal) {
+fn tell_refusal(to: &mut impl Write, refusal: Refusal) -> io::Result<()> {
     let why = refusal.why();
-    word(b"refused");
-    number(why.number as u64);
-    number(why.missing as u64);
-    number(why.lowest as u64);
+    word(to, b"refused")?;
+    number(to, why.number as u64)?;
+    number(to, why.missing as u64)?;
+    number(to, why.lowest as u64)
 }
 
 // Prints an answer, and tells how many bytes were written.
-fn tell(answer: Answer) -> usize {
+fn tell(to: &mut impl Write, answer: Answer) -> io::Result<usize> {
     match answer {
         Answer::Refused(refusal) => {
-            tell_refusal(refusal);
-            0
+            tell_refusal(to, refusal)?;
+            Ok(0)
         }
         Answer::Begun { slot, count } => {
-            word(b"begun");
-            number(slot as u64);
-            number(count as u64);
-            count
+            word(to, b"begun")?;
+            number(to, slot as u64)?;
+            number(to, count as u64)?;
+            Ok(count)
         }
         Answer::Arrived { slot } => {
-            word(b"arrived");
-            number(slot as u64);
-            0
+            word(to, b"arrived")?;
+            number(to, slot as u64)?;
+            Ok(0)
         }
         Answer::Closed => {
-            word(b"closed");
-            0
+            word(to, b"closed")?;
+            Ok(0)
         }
         Answer::Answered {
             stage,
             freed,
             count,
         } => {
-            word(b"answered");
-            number(wide(stage.number()));
-            freed_number(freed);
-            number(count as u64);
-            count
+            word(to, b"answered")?;
+            number(to, wide(stage.number()))?;
+            freed_number(to, freed)?;
+            number(to, count as u64)?;
+            Ok(count)
         }
     }
 }
@@ -100,17 +106,17 @@ fn differs(b: u8, i: usize, from: usize) -> u64
 }
 
 // What was written; how many bytes behind it are not as they were, and how many in all.
-fn print_output(out: &[u8], count: usize) {
-    bytes(part(out, 0, count));
-    number(changed(out, count));
-    number(changed(out, 0));
+fn print_output(to: &mut impl Write, out: &[u8], count: usize) -> io::Result<()> {
+    bytes(to, part(out, 0, count))?;
+    number(to, changed(out, count))?;
+    number(to, changed(out, 0))
 }
 
-fn make(e: &mut [u8; SIZE], r: &[u8]) {
+fn make(to: &mut impl Write, e: &mut [u8; SIZE], r: &[u8]) -> io::Result<()> {
     let making = calls::make(e, part(r, 14, 65535), num64(r, 2), num32(r, 10));
     match making {
-        Making::Ready => word(b"made"),
-        Making::NotMade(refusal) => tell_refusal(refusal),
+        Making::Ready => word(to, b"made"),
+        Making::NotMade(refusal) => tell_refusal(to, refusal),
     }
 }
 
@@ -128,23 +134,25 @@ fn room(n: u16) -> usize
     if n < 600 { n as usize } else { 600 }
 }
 
-fn start(e: &mut [u8; SIZE], r: &[u8], out: &mut [u8]) {
+fn start(to: &mut impl Write, e: &mut [u8; SIZE], r: &[u8], out: &mut [u8]) -> io::Result<()> {
     let answer = calls::start(e, part(r, 4, 65535), out);
-    let count = tell(answer);
-    print_output(out, count);
+    let count = tell(to, answer)?;
+    print_output(to, out, count)
 }
 
-fn arrive(e: &mut [u8; SIZE]) {
+fn arrive(to: &mut impl Write, e: &mut [u8; SIZE]) -> io::Result<()> {
     let answer = calls::arrive(e);
-    tell(answer);
+    tell(to, answer)?;
+    Ok(())
 }
 
-fn close(e: &mut [u8; SIZE], r: &[u8]) {
+fn close(to: &mut impl Write, e: &mut [u8; SIZE], r: &[u8]) -> io::Result<()> {
     let answer = calls::close(e, num16(r, 2) as usize);
-    tell(answer);
+    tell(to, answer)?;
+    Ok(())
 }
 
-fn message(e: &mut [u8; SIZE], r: &[u8], out: &mut [u8]) {
+fn message(to: &mut impl Write, e: &mut [u8; SIZE], r: &[u8], out: &mut [u8]) -> io::Result<()> {
     let own = num16(r, 10) as usize;
     let standard = num16(r, 12) as usize;
     let answer = calls::message(
@@ -156,57 +164,62 @@ fn message(e: &mut [u8; SIZE], r: &[u8], out: &mut [u8]) {
         part(r, 14 + own, standard),
         out,
     );
-    let count = tell(answer);
-    print_output(out, count);
+    let count = tell(to, answer)?;
+    print_output(to, out, count)
 }
 
-fn start_in(e: &mut [u8; SIZE], r: &[u8]) {
+fn start_in(to: &mut impl Write, e: &mut [u8; SIZE], r: &[u8]) -> io::Result<()> {
     let mut space = output();
     let n = room(num16(r, 2));
-    start(e, r, &mut space[..n])
+    start(to, e, r, &mut space[..n])
 }
 
-fn message_in(e: &mut [u8; SIZE], r: &[u8]) {
+fn message_in(to: &mut impl Write, e: &mut [u8; SIZE], r: &[u8]) -> io::Result<()> {
     let mut space = output();
     let n = room(num16(r, 8));
-    message(e, r, &mut space[..n])
+    message(to, e, r, &mut space[..n])
 }
 
-fn show(e: &mut [u8; SIZE], r: &[u8]) {
+fn show(to: &mut impl Write, e: &mut [u8; SIZE], r: &[u8]) -> io::Result<()> {
     let s = calls::slot(e, num16(r, 2) as usize);
-    word(b"slot");
+    word(to, b"slot")?;
     let stage = s.stage;
-    number(wide(stage.number()));
+    number(to, wide(stage.number()))?;
     let n = s.name;
     let b = n.array();
-    bytes(part(&b, 0, n.size()));
-    number(s.flags);
-    number(s.creation as u64);
-    number(s.challenge as u64);
+    bytes(to, part(&b, 0, n.size()))?;
+    number(to, s.flags)?;
+    number(to, s.creation as u64)?;
+    number(to, s.challenge as u64)
 }
 
-fn act(e: &mut [u8; SIZE], r: &[u8]) {
+fn act(to: &mut impl Write, e: &mut [u8; SIZE], r: &[u8]) -> io::Result<()> {
     match byte(r, 0) {
-        b'n' => make(e, r),
-        b's' => start_in(e, r),
-        b'a' => arrive(e),
-        b'c' => close(e, r),
-        b'm' => message_in(e, r),
-        _ => show(e, r),
+        b'n' => make(to, e, r),
+        b's' => start_in(to, e, r),
+        b'a' => arrive(to, e),
+        b'c' => close(to, e, r),
+        b'm' => message_in(to, e, r),
+        _ => show(to, e, r),
     }
 }
 
 // By the record's second byte, on the one endpoint or the other.
-fn step(one: &mut [u8; SIZE], two: &mut [u8; SIZE], r: &[u8]) {
+fn step(
+    to: &mut impl Write,
+    one: &mut [u8; SIZE],
+    two: &mut [u8; SIZE],
+    r: &[u8],
+) -> io::Result<()> {
     if byte(r, 1) == 0 {
-        act(one, r);
+        act(to, one, r)?;
     } else {
-        act(two, r);
+        act(to, two, r)?;
     }
-    word(b"\n");
+    word(to, b"\n")
 }
 
-fn run(s: &[u8]) {
+fn run(to: &mut impl Write, s: &[u8]) -> io::Result<()> {
     let mut one = [0u8; SIZE];
     let mut two = [0u8; SIZE];
     let mut at = 0;
@@ -215,15 +228,18 @@ fn run(s: &[u8]) {
         let start = r.start;
         let end = r.end;
         if end <= at {
-            return;
+            return Ok(());
         }
-        step(&mut one, &mut two, &s[start..end]);
+        step(to, &mut one, &mut two, &s[start..end])?;
         at = end;
     }
+    Ok(())
 }
 
-fn main() {
-    let mut space = io::large_buffer();
-    let n = io::read_full(STDIN_FILENO, &mut space);
-    run(&space[..n]);
+fn main(rt: HostRuntime) -> io::Result<()> {
+    let mut input = Vec::new(rt.alloc());
+    rt.stdin().take(SPACE).read_to_end(&mut input)?;
+    let mut to = BufWriter::new(rt.alloc(), rt.stdout())?;
+    run(&mut to, input.as_slice())?;
+    to.flush()
 }

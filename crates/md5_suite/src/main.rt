@@ -1,22 +1,34 @@
 // RFC 1321's test suite, written as the RFC writes it (A.5).
-use cases::print::{bytes, word};
+#![tactic(auto)]
 
-fn show(text: &[u8]) {
-    word(b"MD5 (\"");
-    word(text);
-    word(b"\") = ");
+use cases::print::{bytes, word};
+use std::io;
+use std::io::{BufWriter, Write};
+
+fn show(to: &mut impl Write, text: &[u8]) -> io::Result<()> {
+    word(to, b"MD5 (\"")?;
+    word(to, text)?;
+    word(to, b"\") = ")?;
     let d = md5_digest::digest(text);
-    bytes(&d);
-    word(b"\n");
+    bytes(to, &d)?;
+    word(to, b"\n")
 }
 
-fn main() {
-    word(b"MD5 test suite:\n");
-    show(b"");
-    show(b"a");
-    show(b"abc");
-    show(b"message digest");
-    show(b"abcdefghijklmnopqrstuvwxyz");
-    show(b"ABCDEFGHIJKLMNOPQRSTUVWXYZabcdefghijklmnopqrstuvwxyz0123456789");
-    show(b"12345678901234567890123456789012345678901234567890123456789012345678901234567890");
+fn main(rt: HostRuntime) -> io::Result<()> {
+    let mut to = BufWriter::new(rt.alloc(), rt.stdout())?;
+    word(&mut to, b"MD5 test suite:\n")?;
+    show(&mut to, b"")?;
+    show(&mut to, b"a")?;
+    show(&mut to, b"abc")?;
+    show(&mut to, b"message digest")?;
+    show(&mut to, b"abcdefghijklmnopqrstuvwxyz")?;
+    show(
+        &mut to,
+        b"ABCDEFGHIJKLMNOPQRSTUVWXYZabcdefghijklmnopqrstuvwxyz0123456789",
+    )?;
+    show(
+        &mut to,
+        b"12345678901234567890123456789012345678901234567890123456789012345678901234567890",
+    )?;
+    to.flush()
 }

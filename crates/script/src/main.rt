@@ -1,6 +1,10 @@
 // The script program (01): it reads groups of three lines from standard input, feeds each to a
 // mapper of port 4369 and first creation 1, and prints the answer before it reads on. What it does is
 // said and proved in script_lines.
-fn main() {
-    script_lines::run_script();
+#![tactic(auto)]
+
+use std::io;
+
+fn main(rt: HostRuntime) -> io::Result<()> {
+    script_lines::run_script(&mut rt.stdin(), &mut rt.stdout())
 }

@@ -1,6 +1,7 @@
 -- 01, The script program: an input as lines, and all that a run prints of it.
-use Rattle.std.specs.Prelude.{ℕ, suc, ◌-◌, ◌≡◌, cond, List, [], ◌∷◌, ◌++◌, length, take, drop, eqb, ltb}
+use Rattle.std.specs.Prelude.{ℕ, suc, ◌-◌, ◌<◌, ◌≡◌, cond, List, [], ◌∷◌, ◌++◌, length, take, drop, eqb, ltb}
 use Rattle.wire.specs.Output.{written}
+use Rattle.epmd_state.specs.Bytes.{registry_of}
 use Rattle.script_lines.specs.State.{Script, script_in}
 use Rattle.script_lines.specs.declared.script.Taken.{Taken}
 use Rattle.script_lines.specs.Script.{line_of, end_of, started}
@@ -65,3 +66,20 @@ pub record Takes (t : Taking) (n : ℕ) (told : Taken) (registry out out' : List
 pub record Printed (s : Script) (held xs : List ℕ) (s' : Script) (held' rest : List ℕ) : Type 0 where
   pub bytes : List ℕ
   pub is : (more : List ℕ) → to_print s held (xs ++ more) ≡ bytes ++ to_print s' held' (rest ++ more)
+
+-- ---- what is left where a write fails
+
+-- a line was taken that prints something, and its bytes may not have been written
+pub record TakesUnprinted (t : Taking) (n : ℕ) (registry out out' : List ℕ) : Type 0 where
+  pub told : Taken
+  pub takes : Takes t n told registry out out'
+  pub prints : 0 < told.written
+
+-- of a part xs all that stands before a line was printed, and that line prints something: the registry is as it leaves it
+pub record PrintedUntil (s : Script) (held xs : List ℕ) (registry : List ℕ) : Type 0 where
+  pub script : Script
+  pub held' : List ℕ
+  pub rest : List ℕ
+  pub before : Printed s held xs script held' rest
+  pub after : registry_of registry ≡ (take_of script held' rest).script.registry
+  pub prints : 0 < length (take_of script held' rest).bytes

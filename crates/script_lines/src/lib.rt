@@ -3,6 +3,8 @@
 //
 // A run's state is the line that it awaits and a registry in lent bytes. What an input prints is said
 // whole in specs/Lines, and `finish` cites it. A `requires` here is one that our own program meets.
+#![tactic(auto)]
+
 mod answer;
 mod gather;
 mod line;
@@ -13,7 +15,10 @@ mod text;
 pub use line::{Item, item_of};
 pub use run::run as run_script;
 
-// How many bytes an answer takes at most (a NAMES reply), and how many characters of a line are held.
+// How many bytes an answer takes at most (a NAMES reply), how many characters of a line are held, and how
+// much of the input is read at a time.
 pub(crate) const ANSWER: usize = 14 + 2 * epmd::ROOM;
 
 pub(crate) const HELD: usize = 801;
+
+pub(crate) const PART: usize = 4096;

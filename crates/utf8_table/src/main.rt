@@ -4,35 +4,44 @@
 //
 // stdin has the sequences as cases. sequences.py makes it, and makes stdout from the answers of
 // Python's own decoder.
+#![tactic(auto)]
+
 use cases::print::{bytes, word};
 use cases::record;
-use libc::STDIN_FILENO;
+use std::io;
+use std::io::{BufWriter, Read, Write};
 
-fn print(name: &[u8]) {
-    bytes(name);
+// How much of stdin is read.
+const SPACE: u64 = 65536;
+
+fn print(to: &mut impl Write, name: &[u8]) -> io::Result<()> {
+    bytes(to, name)?;
     if names::is_node_name(name) {
-        word(b" yes\n");
+        word(to, b" yes\n")
     } else {
-        word(b" no\n");
+        word(to, b" no\n")
     }
 }
 
-fn print_all(s: &[u8]) {
+fn print_all(to: &mut impl Write, s: &[u8]) -> io::Result<()> {
     let mut at = 0;
     while at < s.len() {
         let r = record::find(s, at);
         let start = r.start;
         let end = r.end;
         if end <= at {
-            return;
+            return Ok(());
         }
-        print(&s[start..end]);
+        print(to, &s[start..end])?;
         at = end;
     }
+    Ok(())
 }
 
-fn main() {
-    let mut space = io::large_buffer();
-    let n = io::read_full(STDIN_FILENO, &mut space);
-    print_all(&space[..n]);
+fn main(rt: HostRuntime) -> io::Result<()> {
+    let mut input = Vec::new(rt.alloc());
+    rt.stdin().take(SPACE).read_to_end(&mut input)?;
+    let mut to = BufWriter::new(rt.alloc(), rt.stdout())?;
+    print_all(&mut to, input.as_slice())?;
+    to.flush()
 }

@@ -6,6 +6,8 @@ use crate::ask;
 use crate::print::first;
 use cases::print::word;
 use epmd::{ROOM, SIZE};
+use std::io;
+use std::io::Write;
 
 fn digit(n: usize) -> u8 {
     (48 + n % 10) as u8
@@ -28,13 +30,13 @@ fn alive2(nlen: usize, elen: usize, number: usize) -> [u8; 400]
 }
 
 // A first registration with a name and extra bytes of these lengths.
-fn show_lengths(nlen: usize, elen: usize)
+fn show_lengths(to: &mut impl Write, nlen: usize, elen: usize) -> io::Result<()>
     requires { (nlen ≤ 256) × (elen ≤ 129) }
 {
     let mut state = [0u8; SIZE];
     epmd::make(&mut state, 4369, 1);
     let frame = alive2(nlen, elen, 0);
-    ask(&mut state, 1, first(&frame, 15 + nlen + elen));
+    ask(to, &mut state, 1, first(&frame, 15 + nlen + elen))
 }
 
 // Registers a name and a connection, both told by a number.
@@ -59,40 +61,40 @@ fn make_with(state: &mut [u8; SIZE], many: usize)
 }
 
 // ALIVE2 with a name on a connection, both told by a number, at a mapper with this many registrations.
-fn show_result(many: usize, connection: usize, number: usize)
+fn show_result(to: &mut impl Write, many: usize, connection: usize, number: usize) -> io::Result<()>
     requires { (many ≤ 64) × (connection ≤ 64) }
 {
     let mut state = [0u8; SIZE];
     make_with(&mut state, many);
     let frame = alive2(4, 0, number);
-    ask(&mut state, connection as u32, first(&frame, 19));
+    ask(to, &mut state, connection as u32, first(&frame, 19))
 }
 
 // The lowest place is that of name 0 and connection 0. C10's 65th registration is Result 3.
-pub(crate) fn show_results() {
-    word(b"P2 name in use, on another connection: ");
-    show_result(1, 1, 0);
-    word(b"P2 name in use, on its own connection: ");
-    show_result(1, 0, 0);
-    word(b"P2 connection with a registration: ");
-    show_result(1, 0, 1);
-    word(b"P2 name in use, on its own connection, no place: ");
-    show_result(64, 0, 0);
-    word(b"P2 connection with a registration, no place: ");
-    show_result(64, 0, 64);
+pub(crate) fn show_results(to: &mut impl Write) -> io::Result<()> {
+    word(to, b"P2 name in use, on another connection: ")?;
+    show_result(to, 1, 1, 0)?;
+    word(to, b"P2 name in use, on its own connection: ")?;
+    show_result(to, 1, 0, 0)?;
+    word(to, b"P2 connection with a registration: ")?;
+    show_result(to, 1, 0, 1)?;
+    word(to, b"P2 name in use, on its own connection, no place: ")?;
+    show_result(to, 64, 0, 0)?;
+    word(to, b"P2 connection with a registration, no place: ")?;
+    show_result(to, 64, 0, 64)
 }
 
-pub(crate) fn show_bounds() {
-    word(b"C10 name of 255 bytes: ");
-    show_lengths(255, 0);
-    word(b"C10 name of 256 bytes: ");
-    show_lengths(256, 0);
-    word(b"C10 Elen 128: ");
-    show_lengths(4, 128);
-    word(b"C10 Elen 129: ");
-    show_lengths(4, 129);
-    word(b"C10 64th registration: ");
-    show_result(63, 63, 63);
-    word(b"C10 65th registration: ");
-    show_result(64, 64, 64);
+pub(crate) fn show_bounds(to: &mut impl Write) -> io::Result<()> {
+    word(to, b"C10 name of 255 bytes: ")?;
+    show_lengths(to, 255, 0)?;
+    word(to, b"C10 name of 256 bytes: ")?;
+    show_lengths(to, 256, 0)?;
+    word(to, b"C10 Elen 128: ")?;
+    show_lengths(to, 4, 128)?;
+    word(to, b"C10 Elen 129: ")?;
+    show_lengths(to, 4, 129)?;
+    word(to, b"C10 64th registration: ")?;
+    show_result(to, 63, 63, 63)?;
+    word(to, b"C10 65th registration: ")?;
+    show_result(to, 64, 64, 64)
 }

@@ -1,45 +1,54 @@
 // 01's frames worked by hand, C1 to C10, P2's Results and P3's flags, run through the code: a line a
 // case, with the bytes or the numbers that it gives. stdout was written by hand from 01 and 02. That C1
 // to C9 and the flags hold of the definitions are theorems of `worked`.
+#![tactic(auto)]
+
 use bounds::{show_bounds, show_results};
 use cases::print::word;
 use epmd::{ROOM, SIZE};
 use flags::show_flags;
 use handshake::{ROOM as MESSAGE, SIZE as ENDPOINT};
 use print::{bytes, first};
+use std::io;
+use std::io::{BufWriter, Write};
 
 mod bounds;
 mod flags;
 mod print;
 
 // Puts a frame to the mapper, and prints the reply or the refusal.
-pub(crate) fn ask(state: &mut [u8; SIZE], connection: u32, frame: &[u8]) {
+pub(crate) fn ask(
+    to: &mut impl Write,
+    state: &mut [u8; SIZE],
+    connection: u32,
+    frame: &[u8],
+) -> io::Result<()> {
     let mut out = [0u8; ROOM];
     let answer = epmd::request(state, connection, frame, &mut out);
     let told = answer.numbers();
     if told.refusal == 0 {
-        bytes(first(&out, told.written));
+        bytes(to, first(&out, told.written))
     } else {
-        print::refusal(told.refusal);
+        print::refusal(to, told.refusal)
     }
 }
 
 // C1 to C4, on one mapper: the frame of C1 and C4 is ALIVE2 of ride, port 4370.
-fn show_mapper(alive2: &[u8]) {
+fn show_mapper(to: &mut impl Write, alive2: &[u8]) -> io::Result<()> {
     let mut state = [0u8; SIZE];
     epmd::make(&mut state, 4369, 4);
-    word(b"C1: ");
-    ask(&mut state, 1, alive2);
-    word(b"C2: ");
-    ask(&mut state, 2, b"\x00\x05zride");
-    word(b"C3: ");
-    ask(&mut state, 2, b"\x00\x03zno");
-    word(b"C4: ");
-    ask(&mut state, 2, alive2);
+    word(to, b"C1: ")?;
+    ask(to, &mut state, 1, alive2)?;
+    word(to, b"C2: ")?;
+    ask(to, &mut state, 2, b"\x00\x05zride")?;
+    word(to, b"C3: ")?;
+    ask(to, &mut state, 2, b"\x00\x03zno")?;
+    word(to, b"C4: ")?;
+    ask(to, &mut state, 2, alive2)
 }
 
 // C5: what a@b writes when it starts towards b@b. C6: what b@b writes first when it gets that.
-fn show_messages() {
+fn show_messages(to: &mut impl Write) -> io::Result<()> {
     let mut a = [0u8; ENDPOINT];
     let mut b = [0u8; ENDPOINT];
     let mut out = [0u8; MESSAGE];
@@ -47,40 +56,45 @@ fn show_messages() {
     handshake::calls::make(&mut a, b"a@b", 0x403000104, 7);
     handshake::calls::make(&mut b, b"b@b", 0x403000104, 8);
     handshake::calls::start(&mut a, b"b@b", &mut out);
-    word(b"C5: ");
-    bytes(first(&out, 20));
+    word(to, b"C5: ")?;
+    bytes(to, first(&out, 20))?;
     handshake::calls::arrive(&mut b);
     handshake::calls::message(&mut b, 0, first(&out, 20), 9, b"", b"cookie", &mut back);
-    word(b"C6: ");
-    bytes(first(&back, 5));
+    word(to, b"C6: ")?;
+    bytes(to, first(&back, 5))
 }
 
 // C7 and C8: how two names compare.
-fn compare(a: &[u8], b: &[u8]) {
-    print::signed(wire::number_of(wire::compare(a, b)));
+fn compare(to: &mut impl Write, a: &[u8], b: &[u8]) -> io::Result<()> {
+    print::signed(to, wire::number_of(wire::compare(a, b)))
 }
 
-fn show_names() {
-    word(b"C7: ");
-    compare(b"a@b", b"a@bc");
-    word(b"C8: ");
-    compare(b"b@a", b"a@z");
+fn show_names(to: &mut impl Write) -> io::Result<()> {
+    word(to, b"C7: ")?;
+    compare(to, b"a@b", b"a@bc")?;
+    word(to, b"C8: ")?;
+    compare(to, b"b@a", b"a@z")
 }
 
 // C9: a challenge as text.
-fn show_text() {
+fn show_text(to: &mut impl Write) -> io::Result<()> {
     let mut out = [0u8; 10];
     let n = wire::put_decimal(&mut out, 0, 0);
-    word(b"C9: ");
-    bytes(first(&out, n));
+    word(to, b"C9: ")?;
+    bytes(to, first(&out, n))
 }
 
-fn main() {
-    show_mapper(b"\x00\x11\x78\x11\x12\x4d\x00\x00\x06\x00\x05\x00\x04ride\x00\x00");
-    show_messages();
-    show_names();
-    show_text();
-    show_bounds();
-    show_results();
-    show_flags();
+fn main(rt: HostRuntime) -> io::Result<()> {
+    let mut to = BufWriter::new(rt.alloc(), rt.stdout())?;
+    show_mapper(
+        &mut to,
+        b"\x00\x11\x78\x11\x12\x4d\x00\x00\x06\x00\x05\x00\x04ride\x00\x00",
+    )?;
+    show_messages(&mut to)?;
+    show_names(&mut to)?;
+    show_text(&mut to)?;
+    show_bounds(&mut to)?;
+    show_results(&mut to)?;
+    show_flags(&mut to)?;
+    to.flush()
 }

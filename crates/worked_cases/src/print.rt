@@ -1,10 +1,12 @@
 // What the program writes.
 use cases::print::{number, word};
+use std::io;
+use std::io::Write;
 
 // A run of bytes in hexadecimal, and the line's end.
-pub(crate) fn bytes(s: &[u8]) {
-    cases::print::bytes(s);
-    word(b"\n");
+pub(crate) fn bytes(to: &mut impl Write, s: &[u8]) -> io::Result<()> {
+    cases::print::bytes(to, s)?;
+    word(to, b"\n")
 }
 
 // The first n bytes, or all where there are fewer.
@@ -15,30 +17,30 @@ pub(crate) fn first(s: &[u8], n: usize) -> &[u8] {
     &s[0..n]
 }
 
-pub(crate) fn refusal(n: u32) {
-    word(b"refused ");
-    number(n as u64);
-    word(b"\n");
+pub(crate) fn refusal(to: &mut impl Write, n: u32) -> io::Result<()> {
+    word(to, b"refused ")?;
+    number(to, n as u64)?;
+    word(to, b"\n")
 }
 
 // A refusal's number, and what is told beside it.
-pub(crate) fn numbers(n: u32, missing: u32, lowest: u32) {
-    word(b"refused ");
-    number(n as u64);
-    word(b" ");
-    number(missing as u64);
-    word(b" ");
-    number(lowest as u64);
-    word(b"\n");
+pub(crate) fn numbers(to: &mut impl Write, n: u32, missing: u32, lowest: u32) -> io::Result<()> {
+    word(to, b"refused ")?;
+    number(to, n as u64)?;
+    word(to, b" ")?;
+    number(to, missing as u64)?;
+    word(to, b" ")?;
+    number(to, lowest as u64)?;
+    word(to, b"\n")
 }
 
 // Minus one, zero or one.
-pub(crate) fn signed(n: i8) {
+pub(crate) fn signed(to: &mut impl Write, n: i8) -> io::Result<()> {
     if n < 0 {
-        word(b"-1\n");
+        word(to, b"-1\n")
     } else if n == 0 {
-        word(b"0\n");
+        word(to, b"0\n")
     } else {
-        word(b"1\n");
+        word(to, b"1\n")
     }
 }

@@ -1,0 +1,16 @@
+use mathlib.Core.Path.{◌∙◌, ap}
+use Rattle.epmd_rules.specs.State.{Registry}
+use Rattle.epmd_rules.specs.declared.answer.Making.{Making}
+use Rattle.epmd_rules.specs.Registry.{new_of}
+use Rattle.epmd_state.specs.Bytes.{registry_of, if_made}
+use Rattle.script_lines.specs.declared.script.Awaits.TheVariants.{Operation}
+use Rattle.script_lines.specs.Script.{started}
+use Rattle.script_lines.proofs.ScriptLaws.{mapper_made}
+use Rattle.script_lines.proofs.script.start.Goals as goal
+
+pub returns : goal.returns
+unfolding started
+returns c =
+    let m = c.make.ensures in
+    let e = m.registry ∙ ap (λ (t : Making). if_made t (new_of 4369 1).registry (registry_of c.args.registry.now)) m.answer ∙ mapper_made (registry_of c.args.registry.now) in
+    ap (λ (r : Registry). record { registry = r; awaits = Operation }) e
