@@ -12,7 +12,7 @@ fn is_plain_byte(b: u8) -> bool
 
 // Whether all bytes are plain. There is no way out of the loop but its end, so that the compiler can
 // take many bytes at once.
-fn is_plain(s: &[u8]) -> bool
+pub(crate) fn is_plain(s: &[u8]) -> bool
     ensures { result ≡ plain s.now }
 {
     let mut ok = true;
