@@ -4,7 +4,7 @@ SHELL := /bin/bash
 
 LIB := target/staticlib/libbirkenschuh.a
 HEADER := include/birkenschuh.h
-# Where rt puts it. What else it makes is in the same folders, with copies of sources.
+# Where `rt lib` leaves it. Beside it are copies of sources, which nothing is made from here.
 MADE := crates/birkenschuh/out/libbirkenschuh.a
 RATTLE := $(shell find crates -name out -prune -o \( -path '*/src*' -o -path '*/specs*' -o -path '*/proofs*' \) -print) crates.txt
 CARGO := cargo --quiet
