@@ -4,7 +4,9 @@ SHELL := /bin/bash
 
 LIB := target/staticlib/libbirkenschuh.a
 HEADER := include/birkenschuh.h
-RATTLE := $(shell find crates \( -path '*/src*' -o -path '*/specs*' -o -path '*/proofs*' \)) crates.txt
+# Where `rt lib` leaves it. Beside it are copies of sources, which nothing is made from here.
+MADE := crates/birkenschuh/out/libbirkenschuh.a
+RATTLE := $(shell find crates -name out -prune -o \( -path '*/src*' -o -path '*/specs*' -o -path '*/proofs*' \) -print) crates.txt
 CARGO := cargo --quiet
 
 # What a failed rule left behind must not be taken for its result.
@@ -19,7 +21,7 @@ check:
 	@scripts/total $(MAKE) --no-print-directory check-all
 
 check-all:
-	@scripts/prove target/check.log check
+	@scripts/prove target/check.log . all test
 	@$(MAKE) --no-print-directory check-host check-scripts
 
 # Proves the crates below the library and builds it; nothing is done where nothing changed.
@@ -28,8 +30,9 @@ lib: $(LIB)
 	@echo "header:  $(CURDIR)/$(HEADER)"
 
 $(LIB): $(RATTLE)
-	@scripts/prove target/staticlib.log staticlib birkenschuh
-	@touch $@
+	@scripts/prove target/staticlib.log crates/birkenschuh lib
+	@mkdir -p $(@D)
+	@cp $(MADE) $@
 
 # The header from C and C++; the stack that each call needs; the wrapper's tests; the library against an implementation of its own, some
 # millions of calls.
