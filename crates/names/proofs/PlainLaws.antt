@@ -25,9 +25,12 @@ pub plain_step : (xs : List ℕ) (i : ℕ) (t : Bool) → i < length xs → (t &
 unfolding plain
 plain_step xs i t h = rw (here xs i h) (and_assoc t (plain_byte (get_or xs i 0)) (plain (drop (i + 1) xs)))
 
-pub plain_end : (xs : List ℕ) (i : ℕ) (t : Bool) → length xs ≤ i → t && plain (drop i xs) ≡ t
+pub plain_end : (xs : List ℕ) (i : ℕ) → length xs ≤ i → plain (drop i xs) ≡ true
 unfolding plain
-plain_end xs i t h = rw (drop_of_length-le xs h) (and_true t)
+plain_end xs i h = rw (drop_of_length-le xs h)
+
+pub plain_done : (xs : List ℕ) (i : ℕ) (t : Bool) → length xs ≤ i → t && plain (drop i xs) ≡ t
+plain_done xs i t h = rw (plain_end xs i h) (and_true t)
 
 -- ---- byte by byte
 

@@ -6,7 +6,7 @@ use native.Mathlib.Omega.{arith}
 use lib.ListN.{drop}
 use borrow.Author.Rules.{rules}
 use Rattle.names.specs.Node.{plain}
-use Rattle.names.proofs.PlainLaws.{plain_step, plain_end}
+use Rattle.names.proofs.PlainLaws.{plain_step, plain_done}
 use Rattle.names.proofs.plain.is_plain.Goals as goal
 
 pub loop-i-preserved : goal.loop-i-preserved
@@ -20,4 +20,4 @@ loop-i-preserved c =
 pub returns : goal.returns
 returns c =
     let l = c.loop-i in
-    sym (plain_end c.args.s.now l.i l.ok (omega arith)) ∙ l.invariant.1
+    sym (plain_done c.args.s.now l.i l.ok (omega arith)) ∙ l.invariant.1
