@@ -1,12 +1,13 @@
 -- Laws of the answer's lines, and of what the mapper answers. Assumes nothing.
 use Prim.Native.Nat.{ℕ, ◌+◌, ◌*◌, ◌≤◌, ◌<◌}
-use mathlib.Core.Path.{◌≡◌, sym, ap}
+use mathlib.Core.Path.{◌≡◌, sym, ap, ◌∙◌}
 use mathlib.Core.List.{List, [], ◌∷◌, ◌++◌, append_assoc}
 use native.Mathlib.Omega.{arith}
 use lib.ListN.{length, take, drop, length-append}
 use lib.Seq.{take_at}
 use Rattle.wire.specs.Decimal.{decimal}
 use Rattle.wire.specs.Output.{written}
+use Rattle.wire.specs.Run.{part}
 use Rattle.wire.proofs.DecimalLaws.{decimal_within}
 use Rattle.epmd_rules.specs.declared.refusal.Refusal.{Refusal}
 use Rattle.epmd_rules.specs.declared.refusal.Refusal.TheVariants.{OutputTooShort, NotAFrame, UnknownTag, BadLength, BadName, BadVersions, NotServed, ZeroCreation}
@@ -54,6 +55,10 @@ failure_fits = omega (arith, answer_length 19 [], decimal_within 2 19 (omega ari
 pub written_front : (bs xs : List ℕ) (n : ℕ) → n ≡ length bs → take n (written bs xs) ≡ bs
 unfolding written
 written_front bs xs n e = take_at bs (drop (length bs) xs) n (sym e)
+
+pub part_front : (bs xs ys : List ℕ) (n : ℕ) → ys ≡ written bs xs → n ≡ length bs → part 0 n ys ≡ bs
+unfolding part
+part_front bs xs ys n e l = ap (take n) e ∙ written_front bs xs n l
 
 pub written_holds : (bs xs ys : List ℕ) (n : ℕ) → ys ≡ written bs xs → n ≡ length bs → n ≤ length ys
 unfolding written

@@ -5,6 +5,7 @@ pub mod ScriptLaws
 pub mod ReadBack
 pub mod TakeLaws
 pub mod PartLaws
+pub mod RunLaws
 pub mod WholeCase
 pub mod ConnLine
 pub mod Promises

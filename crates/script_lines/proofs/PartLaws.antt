@@ -157,10 +157,10 @@ module _ (s : Script) (part line : List ℕ) (from held n next : ℕ) (low : hel
           drop_of_length-le part k ∙ sym (ap (λ (x : Taking). x.rest) r),
         )
 
-pub printed_none : (s : Script) (held xs : List ℕ) → Printed s held xs s held xs
+unfoldable pub printed_none : (s : Script) (held xs : List ℕ) → Printed s held xs s held xs
 printed_none s held xs = record { bytes = []; is = λ more. refl }
 
-pub printed_more : (s : Script) (held xs : List ℕ) (s₁ : Script) (held₁ rest₁ : List ℕ) (s₂ : Script) (held₂ rest₂ : List ℕ) → Printed s held xs s₁ held₁ rest₁
+unfoldable pub printed_more : (s : Script) (held xs : List ℕ) (s₁ : Script) (held₁ rest₁ : List ℕ) (s₂ : Script) (held₂ rest₂ : List ℕ) → Printed s held xs s₁ held₁ rest₁
     → s₂ ≡ (take_of s₁ held₁ rest₁).script → held₂ ≡ (take_of s₁ held₁ rest₁).held → rest₂ ≡ (take_of s₁ held₁ rest₁).rest
     → Printed s held xs s₂ held₂ rest₂
 printed_more s held xs s₁ held₁ rest₁ s₂ held₂ rest₂ p e f g =

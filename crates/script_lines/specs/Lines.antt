@@ -1,5 +1,6 @@
 -- 01, The script program: an input as lines, and all that a run prints of it.
-use Rattle.std.specs.Prelude.{ℕ, suc, ◌-◌, ◌<◌, ◌≡◌, cond, List, [], ◌∷◌, ◌++◌, length, take, drop, eqb, ltb}
+use Rattle.std.specs.Prelude.{ℕ, suc, ◌-◌, ◌<◌, ◌≡◌, Option, IfSome, cond, List, [], ◌∷◌, ◌++◌, length, take, drop, eqb, ltb}
+use Rattle.std.specs.Io.KnownBytes.{Appends}
 use Rattle.wire.specs.Output.{written}
 use Rattle.epmd_state.specs.Bytes.{registry_of}
 use Rattle.script_lines.specs.State.{Script, script_in}
@@ -66,6 +67,15 @@ pub record Takes (t : Taking) (n : ℕ) (told : Taken) (registry out out' : List
 pub record Printed (s : Script) (held xs : List ℕ) (s' : Script) (held' rest : List ℕ) : Type 0 where
   pub bytes : List ℕ
   pub is : (more : List ℕ) → to_print s held (xs ++ more) ≡ bytes ++ to_print s' held' (rest ++ more)
+
+-- and a writer of known bytes got just those
+pub record PrintedOn (s : Script) (held xs : List ℕ) (s' : Script) (held' rest : List ℕ) (out out' : Option (List ℕ)) : Type 0 where
+  pub printed : Printed s held xs s' held' rest
+  pub appended : Appends out out' printed.bytes
+
+-- from a reader of known bytes to a writer of known bytes: all that the input prints. No run reads more often than the bound says
+abbrev pub PrintsAll : Option (List ℕ) → Option (List ℕ) → Option (List ℕ) → Type 0
+PrintsAll input out out' = IfSome input (λ xs. length xs < 18446744073709551615 → Appends out out' (printed xs))
 
 -- ---- what is left where a write fails
 

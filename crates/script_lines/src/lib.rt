@@ -2,7 +2,8 @@
 // call, hexadecimal and decimal text both ways, and the lines of the answer.
 //
 // A run's state is the line that it awaits and a registry in lent bytes. What an input prints is said
-// whole in specs/Lines, and `finish` cites it. A `requires` here is one that our own program meets.
+// whole in specs/Lines: `run` promises it of a reader and a writer whose bytes are known. A `requires`
+// here is one that our own program meets.
 #![tactic(auto)]
 
 mod answer;

@@ -1,10 +1,11 @@
 // The program: its input is read in parts, and what a line gives is printed before the next is
 // looked at.
-ghost use Rattle.std.specs.Prelude.{◌-◌, ◌<◌, ◌≤◌, ◌≡◌, [], length, take, drop, IfOk, OnErr};
+ghost use Rattle.std.specs.Prelude.{◌-◌, ◌<◌, ◌≤◌, ◌≡◌, [], length, take, drop, IfOk, OnOk, OnErr};
+ghost use Rattle.std.specs.Io.KnownBytes.{Appends};
 ghost use Rattle.wire.specs.Output.{overwrite};
 ghost use Rattle.script_lines.specs.State.{script_in};
 ghost use Rattle.script_lines.specs.Answer.{answer_room};
-ghost use Rattle.script_lines.specs.Lines.{up_to, Takes, take_of, Printed, TakesUnprinted, PrintedUntil};
+ghost use Rattle.script_lines.specs.Lines.{up_to, Takes, take_of, Printed, PrintedOn, PrintsAll, TakesUnprinted, PrintedUntil};
 
 use crate::script::{Awaits, Taken, finish, has_ended, start, take};
 use crate::{ANSWER, HELD, PART};
@@ -12,8 +13,8 @@ use epmd::SIZE;
 use std::io;
 use std::io::{Read, Write};
 
-// Takes a line from a part of the input, or what is there of one, and prints what it gives. An error is the writer's, of a line that
-// prints: the registry and the buffers are then as the line leaves them.
+// Takes a line from a part of the input, or what is there of one, and prints what it gives. An error is
+// the writer's, of a line that prints: the registry and the buffers are then as the line leaves them.
 fn take_line<W: Write>(
     to: &mut W,
     registry: &mut [u8; SIZE],
@@ -26,6 +27,7 @@ fn take_line<W: Write>(
     ensures takes { IfOk result (λ after. Takes (take_of (script_in at.awaits registry.old) (take at.held text.old) (drop at.next part.now)) (length part.now) after registry.new out.old out.new) }
     ensures text_after { text.new ≡ overwrite text.old at.held (take (801 - at.held) (up_to (drop at.next part.now))) }
     ensures held_bound { IfOk result (λ after. (after.held ≤ 801) × (at.next < after.next)) }
+    ensures prints { OnOk result (Appends (W.contents to.old) (W.contents to.new) (take_of (script_in at.awaits registry.old) (take at.held text.old) (drop at.next part.now)).bytes) }
     ensures unprinted { OnErr result (TakesUnprinted (take_of (script_in at.awaits registry.old) (take at.held text.old) (drop at.next part.now)) (length part.now) registry.new out.old out.new) }
 {
     let awaits = at.awaits;
@@ -37,7 +39,8 @@ fn take_line<W: Write>(
     Ok(after)
 }
 
-// Takes all lines of a part, and holds what is there of the last. An error is the writer's, of the line that was taken last.
+// Takes all lines of a part, and holds what is there of the last. An error is the writer's, of the line
+// that was taken last.
 fn take_part<W: Write>(
     to: &mut W,
     registry: &mut [u8; SIZE],
@@ -50,6 +53,7 @@ fn take_part<W: Write>(
     requires { (held ≤ 801) × (length text.old ≡ 801) × (answer_room ≤ length out.old) }
     ensures held_bound { IfOk result (λ at. at.held ≤ 801) }
     ensures printed { IfOk result (λ at. Printed (script_in awaits registry.old) (take held text.old) part.now (script_in at.awaits registry.new) (take at.held text.new) []) }
+    ensures prints { IfOk result (λ at. PrintedOn (script_in awaits registry.old) (take held text.old) part.now (script_in at.awaits registry.new) (take at.held text.new) [] (W.contents to.old) (W.contents to.new)) }
     ensures unprinted { OnErr result (PrintedUntil (script_in awaits registry.old) (take held text.old) part.now registry.new) }
 {
     let mut at = Taken {
@@ -75,6 +79,7 @@ fn read_parts<R: Read, W: Write>(
     out: &mut [u8],
 ) -> io::Result<()>
     requires { (length text.old ≡ 801) × (answer_room ≤ length out.old) }
+    ensures { OnOk result (0 < length part.old → PrintsAll (R.remaining from.old) (W.contents to.old) (W.contents to.new)) }
 {
     let awaits = start(registry);
     let mut at = Taken {
@@ -109,7 +114,9 @@ fn read_parts<R: Read, W: Write>(
     Ok(())
 }
 
-pub fn run<R: Read, W: Write>(from: &mut R, to: &mut W) -> io::Result<()> {
+pub fn run<R: Read, W: Write>(from: &mut R, to: &mut W) -> io::Result<()>
+    ensures { OnOk result (PrintsAll (R.remaining from.old) (W.contents to.old) (W.contents to.new)) }
+{
     let mut registry = [0u8; SIZE];
     let mut part = [0u8; PART];
     let mut text = [0u8; HELD];

@@ -18,10 +18,10 @@ overflow_sub-v c =
     (numeral (get_or t l.i 0) (digits_at 10 t l.i c.requires (omega arith))).0
 
 pub overflow_cast-v : goal.overflow_cast-v
-overflow_cast-v c = omega (arith, c.shared_slice_known-1.given c.loop-i.i)
+overflow_cast-v c = omega (arith, c.type_inv.text c.loop-i.i)
 
 pub overflow_add-v : goal.overflow_add-v
-overflow_add-v c = omega (arith, c.shared_slice_known-1.given c.loop-i.i)
+overflow_add-v c = omega (arith, c.type_inv.text c.loop-i.i)
 
 pub returns-then-v-gt4294967295 : goal.returns-then-v-gt4294967295
 returns-then-v-gt4294967295 c =

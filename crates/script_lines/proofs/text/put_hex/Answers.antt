@@ -17,7 +17,7 @@ unfolding hex_of
 loop-i-init c = (search rules, refl, sym (overwrite_none c.args.out.now c.args.at))
 
 pub digit_char-requires : goal.digit_char-requires
-digit_char-requires c = omega (arith, c.shared_slice_known-in-loop-i-1.given c.loop-i.i)
+digit_char-requires c = omega (arith, c.type_inv.src c.loop-i.i)
 
 pub loop-i-preserved : goal.loop-i-preserved
 loop-i-preserved c =
