@@ -1,5 +1,8 @@
 // What a program writes. Nothing says what reaches a program's standard output: that is compared
-// with its stdout.
+// with its stdout. An error is the writer's, which may have taken a part by then.
+ghost use Rattle.std.specs.Prelude.{OnOk};
+ghost use Rattle.std.specs.Io.KnownBytes.{Appends};
+
 use std::io;
 use std::io::Write;
 
@@ -8,7 +11,9 @@ fn wide(b: u8) -> u64 {
 }
 
 // Bytes as they stand.
-pub fn word(to: &mut impl Write, text: &[u8]) -> io::Result<()> {
+pub fn word<W: Write>(to: &mut W, text: &[u8]) -> io::Result<()>
+    ensures { OnOk result (Appends (W.contents to.old) (W.contents to.new) text.now) }
+{
     to.write_all(text)
 }
 
