@@ -2,5 +2,6 @@
 // printed.
 #![tactic(auto)]
 
+pub mod input;
 pub mod print;
 pub mod record;

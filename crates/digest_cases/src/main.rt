@@ -8,14 +8,15 @@
 
 ghost use Rattle.std.specs.Prelude.{◌≤◌, length};
 
+use cases::input::fill;
 use cases::print::{bytes, number, word};
 use cases::record;
 use handshake_messages::cookie::digest;
 use std::io;
-use std::io::{BufWriter, Read, Write};
+use std::io::Write;
 
 // How much of stdin is read.
-const SPACE: u64 = 65536;
+const SPACE: usize = 65536;
 
 fn show_digest(to: &mut impl Write, challenge: u32, cookie: &[u8]) -> io::Result<()>
     requires { length cookie.now ≤ 255 }
@@ -56,9 +57,7 @@ fn show_all(to: &mut impl Write, s: &[u8]) -> io::Result<()> {
 }
 
 fn main(rt: HostRuntime) -> io::Result<()> {
-    let mut input = Vec::new(rt.alloc());
-    rt.stdin().take(SPACE).read_to_end(&mut input)?;
-    let mut to = BufWriter::new(rt.alloc(), rt.stdout())?;
-    show_all(&mut to, input.as_slice())?;
-    to.flush()
+    let mut space = [0u8; SPACE];
+    let n = fill(&mut rt.stdin(), &mut space)?;
+    show_all(&mut rt.stdout(), &space[..n])
 }

@@ -6,6 +6,7 @@
 
 ghost use Rattle.std.specs.Prelude.{◌≡◌, ◌≤◌, length};
 
+use cases::input::fill;
 use cases::print::word;
 use cases::record;
 use handshake::{SIZE, calls};
@@ -13,12 +14,12 @@ use handshake_rules::endpoint::{Answer, Freed, Making};
 use handshake_rules::refusal::Refusal;
 use read::{byte, num16, num32, num64, part};
 use std::io;
-use std::io::{BufWriter, Read, Write};
+use std::io::Write;
 
 mod read;
 
 // How much of stdin is read.
-const SPACE: u64 = 65536;
+const SPACE: usize = 65536;
 
 fn wide(b: u8) -> u64 {
     b as u64
@@ -237,9 +238,7 @@ fn run(to: &mut impl Write, s: &[u8]) -> io::Result<()> {
 }
 
 fn main(rt: HostRuntime) -> io::Result<()> {
-    let mut input = Vec::new(rt.alloc());
-    rt.stdin().take(SPACE).read_to_end(&mut input)?;
-    let mut to = BufWriter::new(rt.alloc(), rt.stdout())?;
-    run(&mut to, input.as_slice())?;
-    to.flush()
+    let mut space = [0u8; SPACE];
+    let n = fill(&mut rt.stdin(), &mut space)?;
+    run(&mut rt.stdout(), &space[..n])
 }

@@ -4,7 +4,7 @@
 
 use cases::print::{bytes, number, word};
 use std::io;
-use std::io::{BufWriter, Write};
+use std::io::Write;
 
 // Byte j is 31 j + j / 256 modulo 256, so that no two blocks of the pattern are the same.
 fn fill(text: &mut [u8]) {
@@ -36,7 +36,6 @@ fn lines(to: &mut impl Write, text: &[u8]) -> io::Result<()> {
 fn main(rt: HostRuntime) -> io::Result<()> {
     let mut text = [0u8; 4096];
     fill(&mut text);
-    let mut to = BufWriter::new(rt.alloc(), rt.stdout())?;
-    lines(&mut to, &text)?;
-    to.flush()
+    let mut to = rt.stdout();
+    lines(&mut to, &text)
 }

@@ -3,7 +3,7 @@
 
 use cases::print::{bytes, word};
 use std::io;
-use std::io::{BufWriter, Write};
+use std::io::Write;
 
 fn show(to: &mut impl Write, text: &[u8]) -> io::Result<()> {
     word(to, b"MD5 (\"")?;
@@ -15,7 +15,7 @@ fn show(to: &mut impl Write, text: &[u8]) -> io::Result<()> {
 }
 
 fn main(rt: HostRuntime) -> io::Result<()> {
-    let mut to = BufWriter::new(rt.alloc(), rt.stdout())?;
+    let mut to = rt.stdout();
     word(&mut to, b"MD5 test suite:\n")?;
     show(&mut to, b"")?;
     show(&mut to, b"a")?;
@@ -29,6 +29,5 @@ fn main(rt: HostRuntime) -> io::Result<()> {
     show(
         &mut to,
         b"12345678901234567890123456789012345678901234567890123456789012345678901234567890",
-    )?;
-    to.flush()
+    )
 }

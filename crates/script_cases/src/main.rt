@@ -5,7 +5,7 @@
 use cases::print::{number, word};
 use script_lines::Item;
 use std::io;
-use std::io::{BufWriter, Write};
+use std::io::Write;
 
 fn print_item(to: &mut impl Write, line: &[u8]) -> io::Result<()> {
     let item = script_lines::item_of(line);
@@ -103,13 +103,12 @@ fn lengths(to: &mut impl Write) -> io::Result<()> {
 }
 
 fn main(rt: HostRuntime) -> io::Result<()> {
-    let mut to = BufWriter::new(rt.alloc(), rt.stdout())?;
+    let mut to = rt.stdout();
     operations(&mut to)?;
     carriage_return(&mut to)?;
     connections(&mut to)?;
     bad_connections(&mut to)?;
     frames(&mut to)?;
     keys(&mut to)?;
-    lengths(&mut to)?;
-    to.flush()
+    lengths(&mut to)
 }

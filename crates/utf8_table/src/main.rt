@@ -6,13 +6,14 @@
 // Python's own decoder.
 #![tactic(auto)]
 
+use cases::input::fill;
 use cases::print::{bytes, word};
 use cases::record;
 use std::io;
-use std::io::{BufWriter, Read, Write};
+use std::io::Write;
 
 // How much of stdin is read.
-const SPACE: u64 = 65536;
+const SPACE: usize = 65536;
 
 fn print(to: &mut impl Write, name: &[u8]) -> io::Result<()> {
     bytes(to, name)?;
@@ -39,9 +40,7 @@ fn print_all(to: &mut impl Write, s: &[u8]) -> io::Result<()> {
 }
 
 fn main(rt: HostRuntime) -> io::Result<()> {
-    let mut input = Vec::new(rt.alloc());
-    rt.stdin().take(SPACE).read_to_end(&mut input)?;
-    let mut to = BufWriter::new(rt.alloc(), rt.stdout())?;
-    print_all(&mut to, input.as_slice())?;
-    to.flush()
+    let mut space = [0u8; SPACE];
+    let n = fill(&mut rt.stdin(), &mut space)?;
+    print_all(&mut rt.stdout(), &space[..n])
 }

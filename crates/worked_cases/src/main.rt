@@ -10,7 +10,7 @@ use flags::show_flags;
 use handshake::{ROOM as MESSAGE, SIZE as ENDPOINT};
 use print::{bytes, first};
 use std::io;
-use std::io::{BufWriter, Write};
+use std::io::Write;
 
 mod bounds;
 mod flags;
@@ -85,7 +85,7 @@ fn show_text(to: &mut impl Write) -> io::Result<()> {
 }
 
 fn main(rt: HostRuntime) -> io::Result<()> {
-    let mut to = BufWriter::new(rt.alloc(), rt.stdout())?;
+    let mut to = rt.stdout();
     show_mapper(
         &mut to,
         b"\x00\x11\x78\x11\x12\x4d\x00\x00\x06\x00\x05\x00\x04ride\x00\x00",
@@ -95,6 +95,5 @@ fn main(rt: HostRuntime) -> io::Result<()> {
     show_text(&mut to)?;
     show_bounds(&mut to)?;
     show_results(&mut to)?;
-    show_flags(&mut to)?;
-    to.flush()
+    show_flags(&mut to)
 }
