@@ -5,14 +5,13 @@ use mathlib.Core.Bool.{Bool, true, false, cond}
 use mathlib.Core.List.{List, []}
 use Rattle.wire.specs.Run.{same_bytes, order}
 use Rattle.names.specs.Held.{name_bytes}
-use Rattle.handshake_rules.specs.State.{Endpoint, Told}
+use Rattle.std.specs.Prelude.{None}
+use Rattle.handshake_rules.specs.State.{Endpoint, Freed, Told}
 use Rattle.handshake_rules.specs.declared.refusal.Refusal.{Refusal}
 use Rattle.handshake_rules.specs.declared.refusal.Refusal.TheVariants.{UnknownStatus}
 use Rattle.handshake_rules.specs.declared.endpoint.Stage.{Stage}
 use Rattle.handshake_rules.specs.declared.endpoint.Stage.TheVariants.{Free, AwaitsName, AwaitsAlive, AwaitsReply, AwaitsStatus, AwaitsChallenge, AwaitsAck, Connected}
 use Rattle.handshake_rules.specs.declared.endpoint.Slot.{Slot}
-use Rattle.handshake_rules.specs.declared.endpoint.Freed.{Freed}
-use Rattle.handshake_rules.specs.declared.endpoint.Freed.TheVariants.{Nothing}
 use Rattle.handshake_rules.specs.declared.endpoint.Sought.TheVariants.{AcceptedFrom, StartedTo, ConnectedTo}
 use Rattle.handshake_rules.specs.declared.accepting.Greeting.TheVariants.{NotAllowed, Nok, Alive, Ok}
 use Rattle.handshake_rules.specs.declared.connecting.Reaction.{Reaction}
@@ -70,9 +69,9 @@ module _ (g : Endpoint) (sl : Slot) (c : ℕ) where
 
   lived : (w : List ℕ) → Frees (on_alive g sl c w)
   lived w =
-      either (same_bytes w true_word) (does (sent sl AwaitsReply c) Nothing (challenge_of g c))
-      (cond (same_bytes w false_word) (does free_slot Nothing []) (fails UnknownStatus)) refl
-      (either (same_bytes w false_word) (does free_slot Nothing []) (fails UnknownStatus) refl tt)
+      either (same_bytes w true_word) (does (sent sl AwaitsReply c) None (challenge_of g c))
+      (cond (same_bytes w false_word) (does free_slot None []) (fails UnknownStatus)) refl
+      (either (same_bytes w false_word) (does free_slot None []) (fails UnknownStatus) refl tt)
 
   reacted : (r : Reaction) → Frees (on_status sl r)
   reacted Proceed = refl

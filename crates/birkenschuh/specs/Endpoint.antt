@@ -1,12 +1,12 @@
 -- What the endpoint's exports do: 01's numbers for what they tell (handshake_rules/specs/Answers), and the endpoint in the host's bytes.
-use Rattle.std.specs.Prelude.{ℕ, ◌≡◌, Bool, cond, List, length, eqb, ltb}
+use Rattle.std.specs.Prelude.{ℕ, ◌≡◌, Bool, cond, List, length, eqb, ltb, Result}
 use Rattle.wire.specs.Output.{written}
 use Rattle.names.specs.declared.held.Name.{Name}
 use Rattle.names.specs.Held.{name_bytes}
-use Rattle.handshake_rules.specs.State.{Told, Made}
+use Rattle.handshake_rules.specs.State.{Freed, Told, Made}
 use Rattle.handshake_rules.specs.declared.endpoint.Slot.{Slot}
-use Rattle.handshake_rules.specs.declared.endpoint.Freed.{Freed}
 use Rattle.handshake_rules.specs.declared.endpoint.Answer.{Answer}
+use Rattle.handshake_rules.specs.declared.refusal.Refusal.{Refusal}
 use Rattle.handshake_rules.specs.declared.refusal.Why.{Why}
 use Rattle.handshake_rules.specs.Answers as rules
 use Rattle.handshake_rules.specs.Endpoint.{stage_number}
@@ -40,7 +40,7 @@ crossing n ended =
       written = n.written;
     }
 
-unfoldable pub told_of : Answer → Numbers
+unfoldable pub told_of : Result Answer Refusal → Numbers
 told_of x = crossing (rules.numbers_of x) (rules.ends_slot x)
 
 -- of these, what each call tells

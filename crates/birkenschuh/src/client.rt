@@ -21,26 +21,23 @@ pub extern "C" fn bks_alive2_request(
 ) -> Numbers
     ensures { Writes (alive2_writing port kind protocol highest lowest name.now extra.now (length out.old)) result out.old out.new }
 {
-    let answer = epmd_client::alive2_request(
+    Numbers::from(epmd_client::alive2_request(
         port, kind, protocol, highest, lowest, name, extra, out,
-    );
-    answer.numbers()
+    ))
 }
 
 #[unsafe(no_mangle)]
 pub extern "C" fn bks_port_please2_request(name: &[u8], out: &mut [u8]) -> Numbers
     ensures { Writes (port_please2_writing name.now (length out.old)) result out.old out.new }
 {
-    let answer = epmd_client::port_please2_request(name, out);
-    answer.numbers()
+    Numbers::from(epmd_client::port_please2_request(name, out))
 }
 
 #[unsafe(no_mangle)]
 pub extern "C" fn bks_names_request(out: &mut [u8]) -> Numbers
     ensures { Writes (names_writing (length out.old)) result out.old out.new }
 {
-    let answer = epmd_client::names_request(out);
-    answer.numbers()
+    Numbers::from(epmd_client::names_request(out))
 }
 
 // The reply to ALIVE2_REQ: 118 or 121.
@@ -48,8 +45,7 @@ pub extern "C" fn bks_names_request(out: &mut [u8]) -> Numbers
 pub extern "C" fn bks_read_alive2(reply: &[u8]) -> Alive2Numbers
     ensures { result ≡ alive2_numbers (alive2_read reply.now) }
 {
-    let said = epmd_client::read_alive2(reply);
-    said.numbers()
+    Alive2Numbers::from(epmd_client::read_alive2(reply))
 }
 
 // The reply to PORT_PLEASE2_REQ: 119.
@@ -57,8 +53,7 @@ pub extern "C" fn bks_read_alive2(reply: &[u8]) -> Alive2Numbers
 pub extern "C" fn bks_read_port2(reply: &[u8]) -> Port2Numbers
     ensures { result ≡ port2_numbers (port2_read reply.now) }
 {
-    let said = epmd_client::read_port2(reply);
-    said.numbers()
+    Port2Numbers::from(epmd_client::read_port2(reply))
 }
 
 // The reply to NAMES_REQ.
@@ -66,6 +61,5 @@ pub extern "C" fn bks_read_port2(reply: &[u8]) -> Port2Numbers
 pub extern "C" fn bks_read_names(reply: &[u8]) -> NamesNumbers
     ensures { Tells reply.now result }
 {
-    let said = epmd_client::read_names(reply);
-    said.numbers()
+    NamesNumbers::from(epmd_client::read_names(reply))
 }

@@ -4,11 +4,12 @@ ghost use Rattle.handshake_rules.specs.Endpoint.{slot_at};
 ghost use Rattle.handshake_rules.specs.Cookie.{cookies};
 ghost use Rattle.handshake_rules.specs.Calls.{new_of, start_of, arrive_of, close_of, message_of};
 ghost use Rattle.handshake_state.specs.Bytes.{endpoint_of};
-ghost use Rattle.birkenschuh.specs.Endpoint.{Makes, Comes, Tells, started_in, arrived_in, refusal_in, answered_in, seen_of, own_of};
+ghost use Rattle.birkenschuh.specs.Endpoint.{Makes, Comes, Tells, made_in, started_in, arrived_in, refusal_in, answered_in, seen_of, own_of};
 
-use crate::numbers::{making_why, numbers_of};
+use crate::numbers::{Numbers, making_why};
 use handshake::SIZE;
 use handshake_rules::endpoint::Slot;
+use handshake_rules::refusal::Why;
 use names::Name;
 
 // Beside 9 how many required flags are missing, and the lowest of them by its bit, or 0 and 33; beside
@@ -70,6 +71,72 @@ pub struct Own {
     pub name: [u8; 255],
 }
 
+impl From<Why> for Made {
+    ghost from_gives = { λ why made. made ≡ made_in why };
+
+    fn from(why: Why) -> Made {
+        Made {
+            refusal: why.number,
+            missing: why.missing,
+            lowest: why.lowest,
+        }
+    }
+}
+
+impl From<Numbers> for Started {
+    ghost from_gives = { λ n told. told ≡ started_in n };
+
+    fn from(n: Numbers) -> Started {
+        Started {
+            refusal: n.why.number,
+            slot: n.slot,
+            written: n.written,
+        }
+    }
+}
+
+impl From<Numbers> for Arrived {
+    ghost from_gives = { λ n told. told ≡ arrived_in n };
+
+    fn from(n: Numbers) -> Arrived {
+        Arrived {
+            refusal: n.why.number,
+            slot: n.slot,
+        }
+    }
+}
+
+impl From<Numbers> for Answered {
+    ghost from_gives = { λ n told. told ≡ answered_in n };
+
+    fn from(n: Numbers) -> Answered {
+        Answered {
+            refusal: n.why.number,
+            stage: n.stage,
+            freed: n.freed,
+            ended: n.ended,
+            written: n.written,
+            missing: n.why.missing,
+            lowest: n.why.lowest,
+        }
+    }
+}
+
+impl From<Slot> for SlotSeen {
+    ghost from_gives = { λ s seen. seen ≡ seen_of s };
+
+    fn from(s: Slot) -> SlotSeen {
+        SlotSeen {
+            stage: s.stage.number() as u32,
+            creation: s.creation,
+            challenge: s.challenge,
+            flags: s.flags,
+            len: s.name.size() as u8,
+            name: s.name.array(),
+        }
+    }
+}
+
 #[unsafe(no_mangle)]
 pub extern "C" fn bks_endpoint_new(
     e: &mut [u8; SIZE],
@@ -80,12 +147,7 @@ pub extern "C" fn bks_endpoint_new(
     ensures { Makes (new_of name.now flags creation) result e.old e.new }
 {
     let making = handshake::calls::make(e, name, flags, creation);
-    let why = making_why(making);
-    Made {
-        refusal: why.number,
-        missing: why.missing,
-        lowest: why.lowest,
-    }
+    Made::from(making_why(making))
 }
 
 // Starts towards a full name.
@@ -94,12 +156,7 @@ pub extern "C" fn bks_endpoint_start(e: &mut [u8; SIZE], name: &[u8], out: &mut 
     ensures { Comes started_in (start_of (endpoint_of e.old) name.now (length out.old)) result e.new out.old out.new }
 {
     let answer = handshake::calls::start(e, name, out);
-    let n = numbers_of(answer);
-    Started {
-        refusal: n.why.number,
-        slot: n.slot,
-        written: n.written,
-    }
+    Started::from(Numbers::from(answer))
 }
 
 // A connection has come in.
@@ -108,11 +165,7 @@ pub extern "C" fn bks_endpoint_arrive(e: &mut [u8; SIZE]) -> Arrived
     ensures { Tells arrived_in (arrive_of (endpoint_of e.old)) result e.new }
 {
     let answer = handshake::calls::arrive(e);
-    let n = numbers_of(answer);
-    Arrived {
-        refusal: n.why.number,
-        slot: n.slot,
-    }
+    Arrived::from(Numbers::from(answer))
 }
 
 // Frees a taken slot.
@@ -121,8 +174,7 @@ pub extern "C" fn bks_endpoint_close(e: &mut [u8; SIZE], slot: u32) -> u32
     ensures { Tells refusal_in (close_of (endpoint_of e.old) slot) result e.new }
 {
     let answer = handshake::calls::close(e, slot as usize);
-    let n = numbers_of(answer);
-    n.why.number
+    Numbers::from(answer).why.number
 }
 
 // One frame on a slot.
@@ -139,31 +191,7 @@ pub extern "C" fn bks_endpoint_message<'a>(
     ensures { Comes answered_in (message_of (cookies own.now standard.now) (endpoint_of e.old) slot frame.now challenge (length out.old)) result e.new out.old out.new }
 {
     let answer = handshake::calls::message(e, slot as usize, frame, challenge, own, standard, out);
-    let n = numbers_of(answer);
-    Answered {
-        refusal: n.why.number,
-        stage: n.stage,
-        freed: n.freed,
-        ended: n.ended,
-        written: n.written,
-        missing: n.why.missing,
-        lowest: n.why.lowest,
-    }
-}
-
-fn seen(s: Slot) -> SlotSeen
-    ensures { result ≡ seen_of s }
-{
-    let stage = s.stage;
-    let name = s.name;
-    SlotSeen {
-        stage: stage.number() as u32,
-        creation: s.creation,
-        challenge: s.challenge,
-        flags: s.flags,
-        len: name.size() as u8,
-        name: name.array(),
-    }
+    Answered::from(Numbers::from(answer))
 }
 
 // A slot's record; from 32 on that of a free one.
@@ -171,7 +199,7 @@ fn seen(s: Slot) -> SlotSeen
 pub extern "C" fn bks_endpoint_slot(e: &[u8; SIZE], slot: u32) -> SlotSeen
     ensures { result ≡ seen_of (slot_at (endpoint_of e.now) slot) }
 {
-    seen(handshake::calls::slot(e, slot as usize))
+    SlotSeen::from(handshake::calls::slot(e, slot as usize))
 }
 
 fn own_seen(name: Name, flags: u64, creation: u32) -> Own

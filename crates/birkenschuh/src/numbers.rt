@@ -1,16 +1,17 @@
 // 01's numbers for the endpoint's answers, as they cross to the host.
-ghost use Rattle.std.specs.Prelude.{◌≡◌};
-ghost use Rattle.handshake_rules.specs.declared.endpoint.Answer.TheVariants.{Refused};
+ghost use Rattle.std.specs.Prelude.{◌≡◌, false, Err};
 ghost use Rattle.handshake_rules.specs.Answers as rules;
+ghost use Rattle.handshake_rules.specs.Endpoint.{stage_number};
 ghost use Rattle.birkenschuh.specs.Endpoint as endpoint;
 
-use handshake_rules::endpoint::{Answer, Freed, Making};
+use handshake_rules::endpoint::{Answer, Stage};
 use handshake_rules::refusal::{Refusal, Why};
 
 // There are 32 slots, and 32 is none of them.
 const NO_SLOT: usize = 32;
 
-// What an answer tells, and `ended`: 1 if a message that is answered so leaves the slot named free.
+// What an answer tells, and `ended`: 1 if a message that is answered so leaves the slot named free. What it
+// doesn't tell is 0, and 32 in `freed`: C has no Option.
 #[derive(Clone, Copy)]
 pub struct Numbers {
     pub why: Why,
@@ -24,10 +25,7 @@ pub struct Numbers {
 fn flag(b: bool) -> u32
     ensures { result ≡ endpoint.flag b }
 {
-    if b {
-        return 1;
-    }
-    0
+    u32::from(b)
 }
 
 fn slot_number(slot: usize) -> u32
@@ -39,80 +37,81 @@ fn slot_number(slot: usize) -> u32
     NO_SLOT as u32
 }
 
-fn freed_number(f: Freed) -> usize
-    ensures { result ≡ rules.freed_number f }
+fn freed_number(freed: Option<usize>) -> u32
+    ensures { result ≡ endpoint.slot_number (rules.freed_number freed) }
 {
-    match f {
-        Freed::Nothing => NO_SLOT,
-        Freed::At(slot) => slot,
-    }
+    slot_number(freed.unwrap_or(NO_SLOT))
 }
 
-// Of no refusal.
-fn unrefused() -> Why
-    ensures { result ≡ rules.unrefused }
-{
-    Why {
-        number: 0,
-        missing: 0,
-        lowest: 0,
-    }
-}
-
-// An answer that is no refusal.
-fn tell(slot: usize, stage: u32, freed: usize, ended: bool, written: usize) -> Numbers
-    ensures { result ≡ endpoint.crossing (rules.tells rules.unrefused slot stage freed written) ended }
+// An answer that tells a slot, and how many bytes were written.
+fn tell(slot: usize, written: usize) -> Numbers
+    ensures { result ≡ endpoint.crossing (rules.tells rules.unrefused slot 0 rules.no_slot written) false }
 {
     Numbers {
-        why: unrefused(),
+        why: Why::default(),
         slot: slot_number(slot),
-        stage,
-        freed: slot_number(freed),
-        ended: flag(ended),
+        stage: 0,
+        freed: freed_number(None),
+        ended: flag(false),
         written,
     }
 }
 
+#[tactic(auto, unfolding(crate::specs::Endpoint::told_of))]
 fn refuse(refusal: Refusal) -> Numbers
-    ensures { result ≡ endpoint.told_of (Refused refusal) }
+    ensures { result ≡ endpoint.told_of (Err refusal) }
 {
     Numbers {
         why: refusal.why(),
         slot: 0,
         stage: 0,
-        freed: NO_SLOT as u32,
+        freed: freed_number(None),
         ended: flag(refusal.frees()),
         written: 0,
     }
 }
 
-fn answered(stage: u32, freed: Freed, written: usize) -> Numbers
-    ensures { result ≡ endpoint.answers stage freed written }
+fn answered(stage: Stage, freed: Option<usize>, written: usize) -> Numbers
+    ensures { result ≡ endpoint.answers (stage_number stage) freed written }
 {
-    tell(0, stage, freed_number(freed), stage == 0, written)
-}
-
-pub fn numbers_of(a: Answer) -> Numbers
-    ensures { result ≡ endpoint.told_of a }
-{
-    match a {
-        Answer::Refused(refusal) => refuse(refusal),
-        Answer::Begun { slot, count } => tell(slot, 0, NO_SLOT, false, count),
-        Answer::Arrived { slot } => tell(slot, 0, NO_SLOT, false, 0),
-        Answer::Closed => tell(0, 0, NO_SLOT, false, 0),
-        Answer::Answered {
-            stage,
-            freed,
-            count,
-        } => answered(stage.number() as u32, freed, count),
+    let stage = stage.number() as u32;
+    Numbers {
+        why: Why::default(),
+        slot: 0,
+        stage,
+        freed: freed_number(freed),
+        ended: flag(stage == 0),
+        written,
     }
 }
 
-pub fn making_why(m: Making) -> Why
-    ensures { result ≡ rules.making_why m }
+impl From<Result<Answer, Refusal>> for Numbers {
+    ghost from_gives = { λ told n. n ≡ endpoint.told_of told };
+
+    #[tactic(auto, unfolding(crate::specs::Endpoint::told_of))]
+    fn from(told: Result<Answer, Refusal>) -> Numbers {
+        match told {
+            Err(refusal) => refuse(refusal),
+            Ok(Answer::Begun { slot, count }) => tell(slot, count),
+            Ok(Answer::Arrived { slot }) => tell(slot, 0),
+            Ok(Answer::Closed) => tell(0, 0),
+            Ok(
+                Answer::Answered {
+                    stage,
+                    freed,
+                    count,
+                },
+            ) => answered(stage, freed, count),
+        }
+    }
+}
+
+// For C, which has no Result: all zero where nothing is refused.
+pub fn making_why(made: Result<(), Refusal>) -> Why
+    ensures { result ≡ rules.making_why made }
 {
-    match m {
-        Making::Ready => unrefused(),
-        Making::NotMade(refusal) => refusal.why(),
+    match made {
+        Ok(()) => Why::default(),
+        Err(refusal) => refusal.why(),
     }
 }

@@ -6,15 +6,14 @@ ghost use Rattle.epmd_state.specs.Bytes.{registry_of, Closes};
 ghost use Rattle.birkenschuh.specs.Registry.{Makes, Serves};
 
 use epmd::SIZE;
-use epmd_rules::answer::Numbers;
+use epmd_rules::answer::{Numbers, making_number};
 use epmd_rules::registration::Registration;
 
 #[unsafe(no_mangle)]
 pub extern "C" fn bks_registry_new(r: &mut [u8; SIZE], port: u16, first: u32) -> u32
     ensures { Makes (new_of port first) result r.old r.new }
 {
-    let making = epmd::make(r, port, first);
-    making.number()
+    making_number(epmd::make(r, port, first))
 }
 
 // A frame from a connection.
@@ -27,8 +26,7 @@ pub extern "C" fn bks_registry_request(
 ) -> Numbers
     ensures { Serves (request_of (registry_of r.old) connection frame.now (length out.old)) result r.new out.old out.new }
 {
-    let answer = epmd::request(r, connection, frame, out);
-    answer.numbers()
+    Numbers::from(epmd::request(r, connection, frame, out))
 }
 
 // The end of a connection: whether it had a registration.

@@ -1,32 +1,45 @@
 // Cases stand in an input one behind the other, each behind its length in two bytes.
-ghost use Rattle.std.specs.Prelude.{◌≡◌, ◌≤◌, length};
+ghost use Rattle.std.specs.Prelude.{◌≡◌, ◌-◌, ◌<◌, ◌≤◌, length, IfSome};
+ghost use Rattle.std.specs.Iterator.{at_most};
 ghost use Rattle.cases.specs.Record.{record_at};
+ghost use Rattle.cases.specs.Records.{GivesRecord};
 
-// Where a case lies: its first byte, and the one behind its last.
-#[derive(Clone, Copy)]
-pub struct Record {
-    pub start: usize,
-    pub end: usize,
+use std::ops::Range;
+
+// Where the case lies whose length stands at an offset, if it is there whole.
+pub fn find(input: &[u8], at: usize) -> Option<Range<usize>>
+    ensures value { result ≡ record_at input.now at }
+    ensures within { IfSome result (λ r. (at < r.start) × (r.start ≤ r.end) × (r.end ≤ length input.now)) }
+{
+    if input.get(at..)?.len() < 2 {
+        return None;
+    }
+    let start = at + 2;
+    let size: u16 = wire::get(input, at);
+    let end = start + size as usize;
+    if input.len() < end {
+        return None;
+    }
+    Some(start..end)
 }
 
-// The case whose length stands at an offset; 0 and 0 if it is not there whole.
-pub fn find(s: &[u8], at: usize) -> Record
-    ensures value { result ≡ record_at s.now at }
-    ensures start_le_end { (result.start ≤ result.end) × (result.end ≤ length s.now) }
-{
-    if s.len() < at {
-        return Record { start: 0, end: 0 };
-    }
-    if s.len() - at < 2 {
-        return Record { start: 0, end: 0 };
-    }
-    let n = wire::get16(s, at) as usize;
-    let start = at + 2;
-    if s.len() - start < n {
-        return Record { start: 0, end: 0 };
-    }
-    Record {
-        start,
-        end: start + n,
+// The cases of an input from an offset on, up to the first that is not there whole.
+#[derive(Clone, Copy)]
+pub struct Records<'a> {
+    pub input: &'a [u8],
+    pub at: usize,
+}
+
+impl<'a> Iterator for Records<'a> {
+    type Item = &'a [u8];
+
+    ghost next_gives = { GivesRecord };
+
+    ghost remaining = { λ s. at_most (length s.input.now - s.at) };
+
+    fn next(&mut self) -> Option<&'a [u8]> {
+        let place = find(self.input, self.at)?;
+        self.at = place.end;
+        Some(&self.input[place])
     }
 }

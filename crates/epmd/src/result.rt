@@ -1,34 +1,40 @@
-// ALIVE2's Result: whether a registration succeeds, or which test it fails.
-ghost use Rattle.std.specs.Prelude.{◌≡◌, length};
+// ALIVE2's Result: the place that a registration gets, or which test it fails.
+ghost use Rattle.std.specs.Prelude.{◌≡◌, IfOk};
 ghost use Rattle.epmd_rules.specs.Registry.{lowest_free};
-ghost use Rattle.epmd_rules.specs.Serve.{result_by, result_of};
-ghost use Rattle.epmd_state.specs.Bytes.{size, registry_of};
+ghost use Rattle.epmd_rules.specs.Serve.{result_of};
+ghost use Rattle.epmd_state.specs.Bytes.{registry_of};
+ghost use Rattle.epmd.specs.Result.{denied_number, result_number};
 
-use epmd_state::find::{find_connection, find_name};
-use epmd_state::layout::PLACES;
+use epmd_state::find::{find_connection, find_free, find_name};
+use epmd_state::layout::SIZE;
 
-// Result, from the places where the name, the connection and a free place were found.
-fn result_by(named: usize, connected: usize, vacant: usize) -> u8
-    ensures { result ≡ result_by named connected vacant }
-{
-    if named < PLACES {
-        return 1;
-    }
-    if connected < PLACES {
-        return 2;
-    }
-    if vacant < PLACES {
-        return 0;
-    }
-    3
+// Why there is no registration, each with its Result.
+#[derive(Clone, Copy, Debug, PartialEq, Eq)]
+pub(crate) enum Denied {
+    NameInUse = 1,
+    ConnectionRegistered = 2,
+    NoPlace = 3,
 }
 
-// Result of a registration that would go to the lowest free place.
-pub(crate) fn result_of(state: &[u8], connection: u32, name: &[u8], vacant: usize) -> u8
-    requires { (vacant ≡ lowest_free (registry_of state.now)) × (length state.now ≡ size) }
-    ensures { result ≡ result_of (registry_of state.now) connection name.now }
+impl Denied {
+    pub(crate) fn number(self) -> u8
+        ensures { result ≡ denied_number self }
+    {
+        self as u8
+    }
+}
+
+// The place that a registration gets, the lowest free one, or why it gets none.
+#[tactic(auto, unfolding(epmd_rules::specs::Serve::result_of))]
+pub(crate) fn place_for(state: &[u8; SIZE], connection: u32, name: &[u8]) -> Result<usize, Denied>
+    ensures number { result_number result ≡ result_of (registry_of state.now) connection name.now }
+    ensures place { IfOk result (λ at. at ≡ lowest_free (registry_of state.now)) }
 {
-    let named = find_name(state, name);
-    let connected = find_connection(state, connection);
-    result_by(named, connected, vacant)
+    if find_name(state, name).is_some() {
+        return Err(Denied::NameInUse);
+    }
+    if find_connection(state, connection).is_some() {
+        return Err(Denied::ConnectionRegistered);
+    }
+    find_free(state).ok_or(Denied::NoPlace)
 }

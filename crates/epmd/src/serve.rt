@@ -1,92 +1,69 @@
-// Requests and closes, on a registry of the right length.
-ghost use Rattle.std.specs.Prelude.{◌≡◌, ◌≤◌, ◌<◌, length};
+// Requests, on an output of the room that a call needs.
+ghost use Rattle.std.specs.Prelude.{◌≡◌, ◌<◌, Ok};
 ghost use Rattle.epmd_rules.specs.Requests.{room};
-ghost use Rattle.epmd_rules.specs.Registry.{lowest_free, stepped, filled, close_of};
-ghost use Rattle.epmd_rules.specs.Serve.{Alive2Body, alive2_of, request_of};
-ghost use Rattle.epmd_state.specs.Bytes.{places, size, registry_of, Does, Closes};
+ghost use Rattle.epmd_rules.specs.Registry.{lowest_free, stepped, filled};
+ghost use Rattle.epmd_rules.specs.Serve.{alive2_of, request_of};
+ghost use Rattle.epmd_state.specs.Bytes.{places, registry_of, Does};
 
 use crate::replies::{put_names, put_port2};
-use crate::result::result_of;
-use epmd_messages::replies::put_alive2_reply;
-use epmd_messages::requests::{alive2_highest, alive2_name, examine, registration_of};
-use epmd_rules::answer::Answer;
+use crate::result::place_for;
+use epmd_messages::replies::{ROOM, put_alive2_reply};
+use epmd_messages::requests::{Alive2Req, examine};
+use epmd_rules::refusal::Refusal;
 use epmd_rules::registration::Registration;
 use epmd_rules::request::Request;
-use epmd_state::find::{find_connection, find_free};
 use epmd_state::head::{next, put_next};
-use epmd_state::layout::PLACES;
-use epmd_state::put::{clear, put};
+use epmd_state::layout::SIZE;
+use epmd_state::put::put;
 
 // The creation after this one: 0 is never given.
+#[tactic(auto, unfolding(epmd_rules::specs::Registry::stepped))]
 fn step(creation: u32) -> u32
     ensures { result ≡ stepped creation }
 {
-    if creation == 4294967295 {
-        return 1;
-    }
-    creation + 1
+    creation.checked_add(1).unwrap_or(1)
 }
 
 // The lowest free place gets a registration, under the next creation.
-fn fill(state: &mut [u8], at: usize, p: Registration, creation: u32)
-    requires { (at ≡ lowest_free (registry_of state.old)) × (at < places) × (creation ≡ (registry_of state.old).next) × (length state.old ≡ size) }
+#[tactic(auto, unfolding(epmd_rules::specs::Registry::filled))]
+fn fill(state: &mut [u8; SIZE], at: usize, p: Registration, creation: u32)
+    requires { (at ≡ lowest_free (registry_of state.old)) × (at < places) × (creation ≡ (registry_of state.old).next) }
     ensures { registry_of state.new ≡ filled (registry_of state.old) p }
 {
     put(state, at, p);
     put_next(state, step(creation));
 }
 
-// ALIVE2_REQ: fills the lowest free place, or tells why not and changes nothing.
-fn alive2(state: &mut [u8], connection: u32, body: &[u8], out: &mut [u8]) -> Answer
-    requires { (Alive2Body body.now) × (room ≤ length out.old) × (length state.old ≡ size) }
-    ensures { Does (alive2_of (registry_of state.old) connection body.now) result state.new out.old out.new }
+// ALIVE2_REQ: fills the lowest free place, or tells why not and changes nothing. Tells the reply's length.
+fn alive2(state: &mut [u8; SIZE], connection: u32, asked: &Alive2Req, out: &mut [u8; ROOM]) -> usize
+    ensures { Does (alive2_of (registry_of state.old) connection asked.now.body.now) (Ok result) state.new out.old out.new }
 {
-    let highest = alive2_highest(body);
-    let vacant = find_free(&state[..]);
-    let result = result_of(&state[..], connection, alive2_name(body), vacant);
-    if 0 < result {
-        let n = put_alive2_reply(out, highest, result, 0);
-        return Answer::Written(n);
-    }
-    let creation = next(&state[..]);
-    fill(
-        state,
-        vacant,
-        registration_of(body, connection, creation),
-        creation,
-    );
-    let n = put_alive2_reply(out, highest, 0, creation);
-    Answer::Written(n)
-}
-
-pub(crate) fn request_in(state: &mut [u8], connection: u32, frame: &[u8], out: &mut [u8]) -> Answer
-    requires { length state.old ≡ size }
-    ensures { Does (request_of (registry_of state.old) connection frame.now (length out.old)) result state.new out.old out.new }
-{
-    let asked = examine(frame, out.len());
-    match asked {
-        Request::Refused(why) => Answer::Refused(why),
-        Request::Alive2 => alive2(state, connection, wire::body_of(frame), out),
-        Request::PortPlease2 => {
-            let body = wire::body_of(frame);
-            let n = put_port2(&state[..], &body[1..], out);
-            Answer::Written(n)
+    let highest = asked.highest();
+    match place_for(state, connection, asked.name()) {
+        Ok(at) => {
+            let creation = next(state);
+            let registration = asked.registration(connection, creation);
+            fill(state, at, registration, creation);
+            put_alive2_reply(out, highest, 0, creation)
         }
-        Request::Names => {
-            let n = put_names(&state[..], out);
-            Answer::Written(n)
-        }
+        Err(why) => put_alive2_reply(out, highest, why.number(), 0),
     }
 }
 
-pub(crate) fn close_in(state: &mut [u8], connection: u32) -> bool
-    requires { length state.old ≡ size }
-    ensures { Closes (close_of (registry_of state.old) connection) result state.new }
+pub(crate) fn answer(
+    state: &mut [u8; SIZE],
+    connection: u32,
+    frame: &[u8],
+    out: &mut [u8; ROOM],
+) -> Result<usize, Refusal>
+    ensures { Does (request_of (registry_of state.old) connection frame.now room) result state.new out.old out.new }
 {
-    let place = find_connection(&state[..], connection);
-    if PLACES <= place {
-        return false;
-    }
-    clear(state, place);
-    true
+    let asked = examine(frame, ROOM)?;
+    let body = wire::body_of(frame);
+    let written = match asked {
+        Request::Alive2 => alive2(state, connection, &Alive2Req { body }, out),
+        Request::PortPlease2 => put_port2(state, &body[1..], out),
+        Request::Names => put_names(state, out),
+    };
+    Ok(written)
 }

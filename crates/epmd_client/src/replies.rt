@@ -37,42 +37,40 @@ const NLEN: usize = LOWEST + 2;
 
 const NAME: usize = NLEN + 2;
 
-// "any Result above 0 an error told as it stands".
-fn alive2_told(tag: u8, res: u8, creation: u32) -> Alive2Reply
-    ensures { result ≡ cond (eqb res 0) (Registered tag creation) (Failed tag res) }
+// "any Result above 0 an error told as it stands". The creation comes read: a function over its width T
+// would be no plainer, since BigEndian says nothing of a T as a u32, and a clause would have to.
+fn alive2_told(reply: &[u8], tag: u8, creation: u32) -> Alive2Reply
+    requires { 2 ≤ length reply.now }
+    ensures { result ≡ cond (eqb (result_in reply.now) 0) (Registered tag creation) (Failed tag (result_in reply.now)) }
 {
-    if res == 0 {
-        return Alive2Reply::Registered { tag, creation };
+    match wire::get::<u8>(reply, RESULT) {
+        0 => Alive2Reply::Registered { tag, creation },
+        result => Alive2Reply::Failed { tag, result },
     }
-    Alive2Reply::Failed { tag, result: res }
 }
 
 // ALIVE2_X_RESP or ALIVE2_RESP.
-pub fn read_alive2(reply: &[u8]) -> Alive2Reply
+#[tactic(auto, using(epmd_client_rules::proofs::ReplyLaws::alive2_laws))]
+pub fn read_alive2(reply: &[u8]) -> Result<Alive2Reply, Unreadable>
     ensures { result ≡ alive2_read reply.now }
 {
     let n = reply.len();
     if n == 0 {
-        return Alive2Reply::Refused(Unreadable::WrongLength);
+        return Err(Unreadable::WrongLength);
     }
-    let tag = wire::get8(reply, 0);
-    if tag == 118 {
-        if n != LONG {
-            return Alive2Reply::Refused(Unreadable::WrongLength);
+    let tag = wire::get::<u8>(reply, 0);
+    match tag {
+        118 if n == LONG => {
+            let creation = wire::get::<u32>(reply, CREATION);
+            Ok(alive2_told(reply, tag, creation))
         }
-        return alive2_told(tag, wire::get8(reply, RESULT), wire::get32(reply, CREATION));
-    }
-    if tag == 121 {
-        if n != SHORT {
-            return Alive2Reply::Refused(Unreadable::WrongLength);
+        121 if n == SHORT => {
+            let creation = wire::get::<u16>(reply, CREATION) as u32;
+            Ok(alive2_told(reply, tag, creation))
         }
-        return alive2_told(
-            tag,
-            wire::get8(reply, RESULT),
-            wire::get16(reply, CREATION) as u32,
-        );
+        118 | 121 => Err(Unreadable::WrongLength),
+        _ => Err(Unreadable::WrongTag),
     }
-    Alive2Reply::Refused(Unreadable::WrongTag)
 }
 
 // The fields of a PORT2_RESP that ends where they do.
@@ -80,9 +78,9 @@ fn fields_in(reply: &[u8]) -> Port2
     requires { length reply.now ≡ extent port2_resp reply.now }
     ensures { result ≡ fields_in reply.now }
 {
-    let nlen = wire::get16(reply, NLEN) as usize;
+    let nlen = wire::get::<u16>(reply, NLEN) as usize;
     let at = NAME + nlen;
-    let elen = wire::get16(reply, at) as u32;
+    let elen = wire::get::<u16>(reply, at) as u32;
     let name = Part {
         at: NAME as u32,
         len: nlen as u32,
@@ -92,47 +90,49 @@ fn fields_in(reply: &[u8]) -> Port2
         len: elen,
     };
     Port2 {
-        port: wire::get16(reply, PORT),
-        kind: wire::get8(reply, KIND),
-        protocol: wire::get8(reply, PROTOCOL),
-        highest: wire::get16(reply, HIGHEST),
-        lowest: wire::get16(reply, LOWEST),
+        port: wire::get::<u16>(reply, PORT),
+        kind: wire::get::<u8>(reply, KIND),
+        protocol: wire::get::<u8>(reply, PROTOCOL),
+        highest: wire::get::<u16>(reply, HIGHEST),
+        lowest: wire::get::<u16>(reply, LOWEST),
         name,
         extra,
     }
 }
 
 // PORT2_RESP with Result 0.
-fn read_found(reply: &[u8]) -> Port2Reply
+#[tactic(auto, using(epmd_client_rules::proofs::ReplyLaws::found_laws))]
+fn read_found(reply: &[u8]) -> Result<Port2Reply, Unreadable>
     requires { (1 ≤ length reply.now) × (tag reply.now ≡ 119) × (result_in reply.now ≡ 0) }
     ensures { result ≡ port2_read reply.now }
 {
     if !runs_end(reply, NLEN) {
-        return Port2Reply::Refused(Unreadable::WrongLength);
+        return Err(Unreadable::WrongLength);
     }
-    Port2Reply::Found(fields_in(reply))
+    Ok(Port2Reply::Found(fields_in(reply)))
 }
 
 // PORT2_RESP.
-pub fn read_port2(reply: &[u8]) -> Port2Reply
+#[tactic(auto, using(epmd_client_rules::proofs::ReplyLaws::port2_laws))]
+pub fn read_port2(reply: &[u8]) -> Result<Port2Reply, Unreadable>
     ensures { result ≡ port2_read reply.now }
 {
     let n = reply.len();
     if n == 0 {
-        return Port2Reply::Refused(Unreadable::WrongLength);
+        return Err(Unreadable::WrongLength);
     }
-    if wire::get8(reply, 0) != 119 {
-        return Port2Reply::Refused(Unreadable::WrongTag);
+    if wire::get::<u8>(reply, 0) != 119 {
+        return Err(Unreadable::WrongTag);
     }
     if n < BEHIND {
-        return Port2Reply::Refused(Unreadable::WrongLength);
+        return Err(Unreadable::WrongLength);
     }
-    let result = wire::get8(reply, RESULT);
+    let result = wire::get::<u8>(reply, RESULT);
     if result == 0 {
         return read_found(reply);
     }
     if n != BEHIND {
-        return Port2Reply::Refused(Unreadable::WrongLength);
+        return Err(Unreadable::WrongLength);
     }
-    Port2Reply::Failed { result }
+    Ok(Port2Reply::Failed { result })
 }

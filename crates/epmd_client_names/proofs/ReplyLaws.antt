@@ -1,6 +1,6 @@
 -- What a tally of all readings of a text says of those with at most 64 lines; and a reply's readings are those of its text, with the own port.
 -- Assumes nothing.
-use Prim.Native.Nat.{ℕ, zero, suc, ◌≤◌, ◌<◌}
+use Prim.Native.Nat.{ℕ, suc, ◌≤◌, ◌<◌}
 use mathlib.Core.Path.{◌≡◌, refl, sym, ap, ◌∙◌, subst}
 use mathlib.Core.Bool.{Bool, true, false, cond}
 use mathlib.Core.List.{List, ◌++◌}
@@ -8,39 +8,39 @@ use native.Mathlib.Omega.{arith}
 use lib.ListN.{length, take, drop, take-append-drop}
 use lib.Seq.{length-take-le}
 use lib.Dec.{ltb, leb}
-use borrow.Author.Tests.{ltb-true, ltb-false, leb-true, leb-false, ne_eqb}
+use Rattle.std.specs.Prelude.{Result, Ok, Err}
+use borrow.Author.Tests.{ltb-true, ltb-false, leb-true, leb-false}
 use Rattle.wire.specs.Run.{part}
 use Rattle.wire.specs.Number.{be, num, be_at}
 use Rattle.wire.specs.Claims.{Octets}
 use Rattle.wire.proofs.NumberLaws.{number_back, octets_back, octets_part}
 use Rattle.epmd_client_rules.specs.declared.unreadable.Unreadable.{Unreadable}
 use Rattle.epmd_client_rules.specs.declared.unreadable.Unreadable.TheVariants.{WrongLength, Ambiguous}
-use Rattle.epmd_client_rules.specs.declared.reply.Listing.{Listing}
-use Rattle.epmd_client_rules.specs.declared.reply.Listing.TheVariants.{Listed, Refused}
 use Rattle.epmd_client_rules.specs.declared.reply.LineAt.{LineAt}
 use Rattle.epmd_client_rules.specs.declared.reply.NamesReply.{NamesReply}
-use Rattle.epmd_client_rules.specs.Readings.{Line, Reading, Reads, Tells, listed, not_listed, most, lines_told}
+use Rattle.epmd_client_rules.specs.Readings.{Line, Reading, Reads, Tells, listed, most, lines_told}
 use Rattle.epmd_client_rules.specs.Readings as readings
 use Rattle.epmd_client_names.specs.Text.{longest}
+use Rattle.epmd_client_names.specs.declared.tally.Tally.{Tally}
+use Rattle.epmd_client_names.specs.declared.tally.Tally.TheVariants as tally
 use Rattle.epmd_client_names.specs.Tallies.{Least, Means, verdict_of}
 use Rattle.epmd_client_names.specs.Survey.{Lines}
 use Rattle.epmd_client_names.specs.Walk.{Lead, Walked}
-use Rattle.epmd_client_names.proofs.TallyLaws.{Fewest, fewest}
 use Rattle.epmd_client_names.proofs.LineLaws.{no_gap}
 use Rattle.epmd_client_names.proofs.SurveyLaws.{lines_short}
 
 -- ---- the verdict
 
-pub data Decided (s : List ℕ) (k : ℕ) : Listing → Type 0 where
-  none : ((x : List Line) → Lines s x → length x ≤ most → ⊥) → Decided s k (Refused WrongLength)
-  several : (x y : List Line) → Lines s x → Lines s y → length x ≤ most → length y ≤ most → (x ≡ y → ⊥) → Decided s k (Refused Ambiguous)
-  only : (x : List Line) → Lead s 0 k x → k ≤ most → ((y : List Line) → Lines s y → length y ≤ most → y ≡ x) → Decided s k Listed
+pub data Decided (s : List ℕ) : Result ℕ Unreadable → Type 0 where
+  none : ((x : List Line) → Lines s x → length x ≤ most → ⊥) → Decided s (Err WrongLength)
+  several : (x y : List Line) → Lines s x → Lines s y → length x ≤ most → length y ≤ most → (x ≡ y → ⊥) → Decided s (Err Ambiguous)
+  only : (k : ℕ) (x : List Line) → Lead s 0 k x → k ≤ most → ((y : List Line) → Lines s y → length y ≤ most → y ≡ x) → Decided s (Ok k)
 
 module _ (s : List ℕ) where
   -- where one reading has the fewest lines, fewer than 64, and another has more, two have at most 64
-  second : (k : ℕ) → Least (Lines s) k → k < most → Decided s k (Refused Ambiguous)
+  second : (k : ℕ) → Least (Lines s) k → k < most → Decided s (Err Ambiguous)
   second k m h = by (leb (length m.4) most) refl where
-    by : (t : Bool) → leb (length m.4) most ≡ t → Decided s k (Refused Ambiguous)
+    by : (t : Bool) → leb (length m.4) most ≡ t → Decided s (Err Ambiguous)
     by true e = several m.0 m.4 m.1 m.5 (omega (arith, m.2)) (leb-true (length m.4) most e) (λ q. omega (arith, ap length q, m.2, m.6))
     by false e =
         let z : (zs : List Line) × Lines s zs × (length zs ≡ suc (length m.0)) =
@@ -48,33 +48,17 @@ module _ (s : List ℕ) where
         in
         several m.0 z.0 m.1 z.1 (omega (arith, m.2)) (omega (arith, z.2, m.2)) (λ q. omega (arith, ap length q, z.2))
 
-  -- where the fewest lines are too many
-  too_many : (n k : ℕ) → Means (Lines s) (suc n) k → most < k → Decided s k (Refused WrongLength)
-  too_many n k m h =
-      let l : Fewest (Lines s) k = fewest (Lines s) (suc n) k m (λ e. omega arith) in
-      none (λ x r f. omega (arith, l.3 x r))
-
-  pub decided : (n k : ℕ) → Means (Lines s) n k → Decided s k (verdict_of (record { kind = n; lines = k }))
-  unfolding verdict_of
-  decided zero k m = none (λ x r f. m x r)
-  decided (suc zero) k m = by (ltb most k) refl where
-    by : (t : Bool) → ltb most k ≡ t → Decided s k (cond t (Refused WrongLength) Listed)
-    by true e = too_many 0 k m (ltb-true most k e)
-    by false e = only m.0 (record { reads = m.1; lines = m.2; only = λ y r g. m.3 y r }) (ltb-false most k e) (λ y r f. m.3 y r)
-  decided (suc (suc zero)) k m = by (ltb most k) (ltb k most) refl refl where
-    by : (t u : Bool) → ltb most k ≡ t → ltb k most ≡ u → Decided s k (cond t (Refused WrongLength) (cond u (Refused Ambiguous) Listed))
-    by true u e f = too_many 1 k m (ltb-true most k e)
-    by false true e f = second k m (ltb-true k most f)
-    by false false e f =
-        only m.0 (record { reads = m.1; lines = m.2; only = λ y r g. m.3 y r g }) (ltb-false most k e)
-        (λ y r g. m.3 y r (omega (arith, ltb-false k most f)))
-  decided (suc (suc (suc n))) k m =
-      rw (ne_eqb (suc (suc (suc n))) 0 (omega arith), ne_eqb (suc (suc (suc n))) 1 (omega arith), ne_eqb (suc (suc (suc n))) 2 (omega arith))
-      (by (ltb most k) refl) where
-        by : (t : Bool) → ltb most k ≡ t → Decided s k (cond t (Refused WrongLength) (Refused Ambiguous))
-        by true e = too_many (suc (suc n)) k m (ltb-true most k e)
-        by false e =
-            several m.0 m.1 m.2 m.3 (omega (arith, m.4, ltb-false most k e)) (omega (arith, m.5, ltb-false most k e)) m.6
+  pub decided : (t : Tally) → Means (Lines s) t → Decided s (verdict_of t)
+  decided tally.Nothing m = none (λ x r f. m x r)
+  decided tally.Over m = none (λ x r f. omega (arith, m.2 x r))
+  decided (tally.One k) m = only k m.0.0 (record { reads = m.0.1; lines = m.0.2; only = λ y r g. m.0.3 y r }) m.1 (λ y r f. m.0.3 y r)
+  decided (tally.Least k) m = by (ltb k most) refl where
+    by : (u : Bool) → ltb k most ≡ u → Decided s (cond u (Err Ambiguous) (Ok k))
+    by true f = second k m.0 (ltb-true k most f)
+    by false f =
+        only k m.0.0 (record { reads = m.0.1; lines = m.0.2; only = λ y r g. m.0.3 y r g }) m.1
+        (λ y r g. m.0.3 y r (omega (arith, ltb-false k most f)))
+  decided (tally.Several k) m = several m.0.0 m.0.1 m.0.2 m.0.3 (omega (arith, m.0.4, m.1)) (omega (arith, m.0.5, m.1)) m.0.6
 
 -- ---- a reply with an own port and a text
 
@@ -94,16 +78,16 @@ module _ (own : ℕ) (small : own ≤ 65535) (s : List ℕ) where
   is_with : (m : Reading) (xs : List Line) → Reads (be 4 own ++ s) m → m.lines ≡ xs → m ≡ with xs
   is_with m xs r e = let o = own_is m r in λ i. record { own = o i; lines = e i }
 
-  pub told_none : ((x : List Line) → Lines s x → length x ≤ most → ⊥) → Tells (be 4 own ++ s) (not_listed WrongLength)
+  pub told_none : ((x : List Line) → Lines s x → length x ≤ most → ⊥) → Tells (be 4 own ++ s) (Err WrongLength)
   told_none u = readings.none (λ m r. u m.lines (lower m r) r.few)
 
-  pub told_refused : {v : Listing} (k : ℕ) (why : Unreadable) → Decided s k v → v ≡ Refused why → Tells (be 4 own ++ s) (not_listed why)
-  told_refused k why (none u) e = let q : WrongLength ≡ why = cc in subst (λ (w : Unreadable). Tells (be 4 own ++ s) (not_listed w)) q (told_none u)
-  told_refused k why (several x y rx ry fx fy d) e =
+  refused : {v : Result ℕ Unreadable} (why : Unreadable) → Decided s v → v ≡ Err why → Tells (be 4 own ++ s) (Err why)
+  refused why (none u) e = let q : WrongLength ≡ why = cc in subst (λ (w : Unreadable). Tells (be 4 own ++ s) (Err w)) q (told_none u)
+  refused why (several x y rx ry fx fy d) e =
       let q : Ambiguous ≡ why = cc in
-      subst (λ (w : Unreadable). Tells (be 4 own ++ s) (not_listed w)) q
+      subst (λ (w : Unreadable). Tells (be 4 own ++ s) (Err w)) q
       (readings.several (with x) (with y) (lift x rx fx) (lift y ry fy) (λ z. d (ap (λ (m : Reading). m.lines) z)))
-  told_refused k why (only x l h u) e = let z : ◌≡◌ {A = ℕ} 0 1 = cc in absurd (omega arith)
+  refused why (only k x l h u) e = let z : ◌≡◌ {A = ℕ} 0 1 = cc in absurd (omega arith)
 
   -- the lines that are walked, and that they are the answer
   pub record Sole (k : ℕ) : Type 0 where
@@ -112,26 +96,36 @@ module _ (own : ℕ) (small : own ≤ 65535) (s : List ℕ) where
     pub few : k ≤ most
     pub tells : Tells (be 4 own ++ s) (listed (with lines))
 
-  pub told_listed : {v : Listing} (k : ℕ) → Decided s k v → v ≡ Listed → Sole k
-  told_listed k (none u) e = let z : ◌≡◌ {A = ℕ} 0 1 = cc in absurd (omega arith)
-  told_listed k (several x y rx ry fx fy d) e = let z : ◌≡◌ {A = ℕ} 0 1 = cc in absurd (omega arith)
-  told_listed k (only x l h u) e =
-      record {
+  sole : {v : Result ℕ Unreadable} (k : ℕ) → Decided s v → v ≡ Ok k → Sole k
+  sole k (none u) e = let z : ◌≡◌ {A = ℕ} 0 1 = cc in absurd (omega arith)
+  sole k (several x y rx ry fx fy d) e = let z : ◌≡◌ {A = ℕ} 0 1 = cc in absurd (omega arith)
+  sole k (only n x l h u) e =
+      let q : n ≡ k = cc in
+      subst Sole q
+      (record {
         lines = x;
         lead = l;
         few = h;
         tells = readings.only (with x) (lift x l.reads (omega (arith, l.lines))) (λ m r. is_with m x r (u m.lines (lower m r) r.few));
-      }
+      })
+
+  -- by the tally of all readings
+  module _ (t : Tally) (m : Means (Lines s) t) where
+    pub told_refused : (why : Unreadable) → verdict_of t ≡ Err why → Tells (be 4 own ++ s) (Err why)
+    told_refused why e = refused why (decided s t m) e
+
+    pub told_listed : (k : ℕ) → verdict_of t ≡ Ok k → Sole k
+    told_listed k e = sole k (decided s t m) e
 
   -- and what is told of them
-  pub told_walked : (k : ℕ) → Sole k → (es : List LineAt) → Walked s k es → Tells (be 4 own ++ s) (record { listing = Listed; port = own; count = k; lines = es })
+  pub told_walked : (k : ℕ) → Sole k → (es : List LineAt) → Walked s k es → Tells (be 4 own ++ s) (Ok (record { port = own; count = k; lines = es }))
   told_walked k z es w =
       let c : length z.lines ≡ k = z.lead.lines in
       let l : lines_told z.lines ≡ es = sym (w z.lines z.lead) in
-      let e : listed (with z.lines) ≡ record { listing = Listed; port = own; count = k; lines = es } =
-      λ i. record { listing = Listed; port = own; count = c i; lines = l i }
+      let e : ◌≡◌ {A = NamesReply} (record { port = own; count = length z.lines; lines = lines_told z.lines }) (record { port = own; count = k; lines = es }) =
+      λ i. record { port = own; count = c i; lines = l i }
       in
-      subst (λ (r : NamesReply). Tells (be 4 own ++ s) r) e z.tells
+      subst (λ (r : NamesReply). Tells (be 4 own ++ s) (Ok r)) e z.tells
 
 -- 64 lines have no more bytes
 pub too_long : (s : List ℕ) → longest < length s → (x : List Line) → Lines s x → length x ≤ most → ⊥
@@ -142,13 +136,13 @@ too_long s h x r f = omega (arith, lines_short x r.1, ap length r.0)
 read_long : (b : List ℕ) (m : Reading) → Reads b m → 4 ≤ length b
 read_long b m r = omega (arith, ap length r.text)
 
-pub told_short : (b : List ℕ) → length b < 4 → Tells b (not_listed WrongLength)
+pub told_short : (b : List ℕ) → length b < 4 → Tells b (Err WrongLength)
 told_short b h = readings.none (λ m r. omega (arith, read_long b m r))
 
-pub told_big : (b : List ℕ) → 65535 < be_at 4 0 b → Tells b (not_listed WrongLength)
+pub told_big : (b : List ℕ) → (be_at 4 0 b < 65536 → ⊥) → Tells b (Err WrongLength)
 unfolding be_at part
 told_big b h =
-    readings.none (λ m r. omega (arith, r.own, sym (number_back 4 m.own (omega (arith, r.own))) ∙ ap (λ (l : List ℕ). num (take 4 l)) r.text))
+    readings.none (λ m r. h (omega (arith, r.own, sym (number_back 4 m.own (omega (arith, r.own))) ∙ ap (λ (l : List ℕ). num (take 4 l)) r.text)))
 
 pub whole : (b : List ℕ) → 4 ≤ length b → Octets b → be 4 (be_at 4 0 b) ++ drop 4 b ≡ b
 unfolding be_at part
@@ -156,3 +150,5 @@ whole b h o =
     let l : length (take 4 b) ≡ 4 = length-take-le 4 b h in
     let e : be 4 (num (take 4 b)) ≡ take 4 b = ap (λ (w : ℕ). be w (num (take 4 b))) (sym l) ∙ (octets_back (take 4 b) (octets_part b o 0 4)).0 in
     ap (λ (p : List ℕ). p ++ drop 4 b) e ∙ take-append-drop 4 b
+
+pub ruleset own_laws = (told_short, told_big)

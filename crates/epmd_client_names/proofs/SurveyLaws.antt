@@ -1,5 +1,5 @@
 -- The readings from a place on whose first name has n bytes, by what the scan finds; and the turns of the loops. Assumes nothing.
-use Prim.Native.Nat.{ℕ, suc, ◌+◌, ◌*◌, ◌-◌, ◌≤◌, ◌<◌}
+use Prim.Native.Nat.{ℕ, ◌+◌, ◌*◌, ◌≤◌, ◌<◌}
 use mathlib.Core.Path.{◌≡◌, refl, sym, ap, ◌∙◌, subst}
 use mathlib.Core.Logic.{⊎_elim, inl, inr}
 use mathlib.Core.Bool.{Bool, true, false}
@@ -8,6 +8,7 @@ use native.Mathlib.Omega.{arith}
 use lib.ListN.{length, take, drop, get_or, set, length-append, length-set, take-append-drop}
 use lib.Seq.{take_at, drop-drop, get_or-set_same, get_or-set_other, drop-length}
 use lib.Dec.{ltb, eqb}
+use Rattle.std.specs.Prelude.{None}
 use borrow.Author.Tests.{ltb-true, ltb-false, eqb-true, eqb-false}
 use Rattle.wire.specs.Run.{part}
 use Rattle.wire.specs.Table.{table_bytes, Each}
@@ -18,14 +19,14 @@ use Rattle.epmd_rules.specs.Requests.{line_room}
 use Rattle.epmd_rules.specs.Replies.{name_word, line_with}
 use Rattle.epmd_rules.proofs.ReplyLaws.{line_length, port_short}
 use Rattle.epmd_client_rules.specs.Readings.{Line, line_text, lines_text, Allowed}
-use Rattle.epmd_client_names.specs.declared.text.Tail.TheVariants.{Missing, Found}
 use Rattle.epmd_client_names.specs.declared.tally.Tally.{Tally}
-use Rattle.epmd_client_names.specs.Text.{tail_text, has_at, tail_at, NameEnds}
-use Rattle.epmd_client_names.specs.Tallies.{Set, Means, join_of}
-use Rattle.epmd_client_names.specs.Survey.{Lines, Exact, Below, Tallied, Rows, Room}
-use Rattle.epmd_client_names.proofs.TextLaws.{has_true, has_of}
+use Rattle.epmd_client_names.specs.declared.tally.Tally.TheVariants as tally
+use Rattle.epmd_client_names.specs.Text.{tail_text, has_at, space_at, found, tail_at}
+use Rattle.epmd_client_names.specs.Tallies.{Set, Means, join_of, longer_of}
+use Rattle.epmd_client_names.specs.Survey.{Lines, Exact, Below, Rows, Room}
+use Rattle.epmd_client_names.proofs.TextLaws.{has_true, has_of, port_of, next_of, not_found}
 use Rattle.epmd_client_names.proofs.PortLaws.{TailHere, tail_length, tail_complete, tail_sound}
-use Rattle.epmd_client_names.proofs.TallyLaws.{same, Or, joined, join_lines, later}
+use Rattle.epmd_client_names.proofs.TallyLaws.{same, Or, joined, later}
 use Rattle.epmd_client_names.proofs.LineLaws.{Stands, uncons, cons, line_long, tail_space, behind_word, at_tail, word, beyond, ended}
 
 -- ---- a first line whose name has n bytes
@@ -35,7 +36,7 @@ module _ (s : List ℕ) (p n : ℕ) (inside : p ≤ length s) where
     pub next : ℕ
     pub stands : Stands s p x next
     pub rest : Lines (drop next s) xs
-    pub found : tail_at s (p + 5 + n) ≡ Found x.port next
+    pub tail : tail_at s (p + 5 + n) ≡ found x.port next
     pub name : x.name ≡ part (p + 5) n s
 
   pub first : (x : Line) (xs : List Line) → Exact s p n (x ∷ xs) → First x xs
@@ -48,10 +49,10 @@ module _ (s : List ℕ) (p n : ℕ) (inside : p ≤ length s) where
         next = u.0;
         stands = u.1;
         rest = u.2;
-        found =
+        tail =
             ap (λ (k : ℕ). tail_at s (p + 5 + k)) (sym l)
             ∙ tail_complete s (p + 5 + length x.name) x.port (drop u.0 s) (at_tail s p x u.0 u.1) u.1.allowed.port
-            ∙ ap (λ (k : ℕ). Found x.port k) q;
+            ∙ ap (λ (k : ℕ). found x.port k) q;
         name = sym (take_at x.name (tail_text x.port ++ drop u.0 s) n l) ∙ ap (take n) (sym (behind_word s p x u.0 u.1));
       }
 
@@ -61,11 +62,10 @@ module _ (s : List ℕ) (p n : ℕ) (inside : p ≤ length s) where
       let f : First x xs = first x xs e in
       omega (arith, f.stands.next, f.stands.inside, line_long x, tail_length x.port, e.1)
 
-  pub none_tail : tail_at s (p + 5 + n) ≡ Missing → (xs : List Line) → Exact s p n xs → ⊥
+  pub none_tail : tail_at s (p + 5 + n) ≡ None → (xs : List Line) → Exact s p n xs → ⊥
   none_tail h [] e = e.1
   none_tail h (x ∷ xs) e =
-      let f : tail_at s (p + 5 + n) ≡ Found x.port (first x xs e).next = (first x xs e).found in
-      let z : ◌≡◌ {A = ℕ} 0 1 = cc in omega arith
+      not_found (record { port = x.port; next = (first x xs e).next }) (sym h ∙ (first x xs e).tail)
 
   pub none_named : node_name (part (p + 5) n s) ≡ false → (xs : List Line) → Exact s p n xs → ⊥
   none_named h [] e = e.1
@@ -75,7 +75,7 @@ module _ (s : List ℕ) (p n : ℕ) (inside : p ≤ length s) where
       let b : node_name x.name ≡ false = ap node_name f.name ∙ h in
       let z : ◌≡◌ {A = ℕ} 0 1 = cc in omega arith
 
-  module _ (port next : ℕ) (has : has_at s p name_word ≡ true) (t : tail_at s (p + 5 + n) ≡ Found port next) (named : node_name (part (p + 5) n s) ≡ true) where
+  module _ (port next : ℕ) (has : has_at s p name_word ≡ true) (t : tail_at s (p + 5 + n) ≡ found port next) (named : node_name (part (p + 5) n s) ≡ true) where
     here : TailHere s (p + 5 + n) port next
     here = tail_sound s (p + 5 + n) port next t
 
@@ -112,16 +112,18 @@ module _ (s : List ℕ) (p n : ℕ) (inside : p ≤ length s) where
     from [] e = absurd e.1
     from (x ∷ xs) e =
         let f : First x xs = first x xs e in
-        let g : Found port next ≡ Found x.port f.next = sym t ∙ f.found in
-        let pe : x.port ≡ port = cc in
-        let ne : f.next ≡ next = cc in
+        let g : found x.port f.next ≡ found port next = sym f.tail ∙ t in
+        let pe : x.port ≡ port = ap port_of g in
+        let ne : f.next ≡ next = ap next_of g in
         let nm : x.name ≡ part (p + 5) n s = f.name in
         let le : x ≡ line = λ i. record { name = nm i; port = pe i } in
         (xs, subst (λ (k : ℕ). Lines (drop k s) xs) ne f.rest, ap (λ (h : Line). h ∷ xs) le)
 
-    pub one_more : (kind k : ℕ) → Means (Lines (drop next s)) kind k → Means (Exact s p n) kind (suc k)
+    pub one_more : (t : Tally) → Means (Lines (drop next s)) t → Means (Exact s p n) (longer_of t)
     unfolding Behind
-    one_more kind k m = same Behind (Exact s p n) to from kind (suc k) (later (Lines (drop next s)) line kind k m)
+    one_more t m = same Behind (Exact s p n) to from (longer_of t) (later (Lines (drop next s)) line t m)
+
+pub ruleset through_laws = (none_short, none_tail, none_named)
 
 -- ---- the loop over the length of the name
 
@@ -146,42 +148,38 @@ module _ (s : List ℕ) (p : ℕ) where
     by true h = inl (e.0, ltb-true (length x.name) n h)
     by false h = inr (e.0, omega (arith, ltb-false (length x.name) n h, e.1))
 
-  pub turn : (n : ℕ) (a b : Tally) → p ≤ length s → Tallied (Below s p n) s p a.kind a.lines → Tallied (Exact s p n) s p b.kind b.lines
-      → Tallied (Below s p (n + 1)) s p (join_of a b).kind (join_of a b).lines
-  turn n a b h m w =
-      record {
-        means =
-            same (Or (Below s p n) (Exact s p n)) (Below s p (n + 1)) (below_next n) (below_split n) (join_of a b).kind (join_of a b).lines
-            (joined (Below s p n) (Exact s p n) a b m.means w.means (apart n));
-        short = omega (arith, join_lines (length s - p) a b (omega (arith, m.short)) (omega (arith, w.short)));
-      }
+  pub turn : (n : ℕ) (a b : Tally) → Means (Below s p n) a → Means (Exact s p n) b → Means (Below s p (n + 1)) (join_of a b)
+  turn n a b m w =
+      same (Or (Below s p n) (Exact s p n)) (Below s p (n + 1)) (below_next n) (below_split n) (join_of a b)
+      (joined (Below s p n) (Exact s p n) a b m w (apart n))
 
   -- no name ends where no space follows it
-  pub skip : (n m : ℕ) → p ≤ length s → NameEnds s (p + 5) n m → (xs : List Line) → Below s p m xs → Below s p n xs
-  skip n m h f [] e = absurd e.1
-  skip n m h f (x ∷ xs) e = by (ltb (length x.name) n) refl where
+  pub skip : (n : ℕ) → p ≤ length s → space_at s (p + 5 + n) ≡ false → (xs : List Line) → Below s p (n + 1) xs → Below s p n xs
+  unfolding space_at
+  skip n h f [] e = absurd e.1
+  skip n h f (x ∷ xs) e = by (ltb (length x.name) n) refl where
     by : (t : Bool) → ltb (length x.name) n ≡ t → Below s p n (x ∷ xs)
     by true g = (e.0, ltb-true (length x.name) n g)
     by false g =
         let u : (q : ℕ) × Stands s p x q × Lines (drop q s) xs = uncons s p x xs h e.0 in
+        let l : length x.name ≡ n = omega (arith, ltb-false (length x.name) n g, e.1) in
         absurd
-        (f.none (length x.name) (ltb-false (length x.name) n g) e.1
-        (tail_space s (p + 5 + length x.name) x.port (drop u.0 s) (at_tail s p x u.0 u.1)))
+        (eqb-false (get_or s (p + 5 + n) 0) 32 f
+        (ap (λ (k : ℕ). get_or s (p + 5 + k) 0) (sym l) ∙ tail_space s (p + 5 + length x.name) x.port (drop u.0 s) (at_tail s p x u.0 u.1)))
 
-  pub skipped : (n m : ℕ) → p ≤ length s → NameEnds s (p + 5) n m → (kind k : ℕ) → Tallied (Below s p n) s p kind k → Tallied (Below s p m) s p kind k
-  skipped n m h f kind k w = record { means = same (Below s p n) (Below s p m) more (skip n m h f) kind k w.means; short = w.short } where
-    more : (xs : List Line) → Below s p n xs → Below s p m xs
+  pub skipped : (n : ℕ) → p ≤ length s → space_at s (p + 5 + n) ≡ false → (t : Tally) → Means (Below s p n) t → Means (Below s p (n + 1)) t
+  skipped n h f t m = same (Below s p n) (Below s p (n + 1)) more (skip n h f) t m where
+    more : (xs : List Line) → Below s p n xs → Below s p (n + 1) xs
     more [] e = absurd e.1
-    more (x ∷ xs) e = (e.0, omega (arith, e.1, f.low))
+    more (x ∷ xs) e = (e.0, omega (arith, e.1))
 
   pub all_below : p < length s → (xs : List Line) → Lines (drop p s) xs → Below s p 256 xs
   unfolding Each
   all_below h [] r = absurd (omega (arith, ended s p r))
   all_below h (x ∷ xs) r = (r, omega (arith, name_short x.name r.1.0.name))
 
-  pub all_turns : p < length s → (kind k : ℕ) → Tallied (Below s p 256) s p kind k → Tallied (Lines (drop p s)) s p kind k
-  all_turns h kind k m =
-      record { means = same (Below s p 256) (Lines (drop p s)) (λ x b. b.0) (all_below h) kind k m.means; short = m.short }
+  pub all_turns : p < length s → (t : Tally) → Means (Below s p 256) t → Means (Lines (drop p s)) t
+  all_turns h t m = same (Below s p 256) (Lines (drop p s)) (λ x b. b.0) (all_below h) t m
 
   pub no_word : p < length s → has_at s p name_word ≡ false → (xs : List Line) → Lines (drop p s) xs → ⊥
   no_word h f [] r = omega (arith, ended s p r)
@@ -190,36 +188,30 @@ module _ (s : List ℕ) (p : ℕ) where
       let g : has_at s p name_word ≡ true = has_of s p name_word (drop (p + 5) s) (word s p x u.0 u.1) in
       let z : ◌≡◌ {A = ℕ} 0 1 = cc in omega arith
 
--- ---- the tables
+-- ---- the table
 
-pub at_end : (s : List ℕ) → Means (Lines (drop (length s) s)) 1 0
+pub at_end : (s : List ℕ) → Means (Lines (drop (length s) s)) (tally.One 0)
 unfolding table_bytes Each
-at_end s = ([], (sym (drop-length s), tt), refl, only) where
+at_end s = (([], (sym (drop-length s), tt), refl, only), omega arith) where
   only : (y : List Line) → Lines (drop (length s) s) y → y ≡ []
   only [] r = refl
   only (x ∷ xs) r =
       let u : (q : ℕ) × Stands s (length s) x q × Lines (drop q s) xs = uncons s (length s) x xs (omega arith) r in
       absurd (omega (arith, beyond s (length s) x u.0 u.1, u.1.inside))
 
-pub room_set : (s : List ℕ) (p : ℕ) (kinds few : List ℕ) (kind k : ℕ) → Room s kinds few → Room s (set kinds p kind) (set few p k)
-room_set s p kinds few kind k r =
-    record {
-      fits = r.fits;
-      kinds_long = omega (arith, r.kinds_long, length-set kinds p kind);
-      few_long = omega (arith, r.few_long, length-set few p k);
-    }
+module _ (s : List ℕ) (p : ℕ) (tallies : List Tally) (t : Tally) where
+  pub room_set : Room s tallies → Room s (set tallies p t)
+  room_set r = record { fits = r.fits; long = omega (arith, r.long, length-set tallies p t) }
 
-pub rows_set : (s : List ℕ) (p : ℕ) (kinds few : List ℕ) (kind k : ℕ) → p < length kinds → p < length few → Rows s (p + 1) kinds few
-    → Tallied (Lines (drop p s)) s p kind k → Rows s p (set kinds p kind) (set few p k)
-rows_set s p kinds few kind k hk hf r m j pj js = by (eqb j p) refl where
-  by : (t : Bool) → eqb j p ≡ t → Tallied (Lines (drop j s)) s j (get_or (set kinds p kind) j 0) (get_or (set few p k) j 0)
-  by true e =
-      let q : j ≡ p = eqb-true j p e in
-      subst (λ (i : ℕ). Tallied (Lines (drop i s)) s i (get_or (set kinds p kind) i 0) (get_or (set few p k) i 0)) (sym q)
-      (rw (get_or-set_same kinds p kind 0 hk, get_or-set_same few p k 0 hf) m)
-  by false e =
-      let q : j ≡ p → ⊥ = eqb-false j p e in
-      rw (get_or-set_other kinds p j kind 0 q, get_or-set_other few p j k 0 q) (r j (omega arith) js)
+  pub rows_set : p < length tallies → Rows s (p + 1) tallies → Means (Lines (drop p s)) t → Rows s p (set tallies p t)
+  rows_set h r m j pj js = by (eqb j p) refl where
+    by : (u : Bool) → eqb j p ≡ u → Means (Lines (drop j s)) (get_or (set tallies p t) j tally.Nothing)
+    by true e =
+        subst (λ (i : ℕ). Means (Lines (drop i s)) (get_or (set tallies p t) i tally.Nothing)) (sym (eqb-true j p e))
+        (rw (get_or-set_same tallies p t tally.Nothing h) m)
+    by false e = rw (get_or-set_other tallies p j t tally.Nothing (eqb-false j p e)) (r j (omega (arith, eqb-false j p e)) js)
+
+pub ruleset table_laws = (at_end, room_set, rows_set)
 
 -- ---- how long the text of some lines is
 

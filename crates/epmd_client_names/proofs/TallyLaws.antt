@@ -1,167 +1,206 @@
 -- Laws of tallies: of a union, of one more line. Assumes nothing.
-use Prim.Native.Nat.{ℕ, zero, suc, ◌≤◌, ◌<◌}
+use Prim.Native.Nat.{ℕ, ◌+◌, ◌≤◌, ◌<◌}
 use mathlib.Core.Path.{◌≡◌, refl, sym, ap, ◌∙◌, subst}
 use mathlib.Core.Logic.{⊎_elim, ◌⊎◌, inl, inr}
 use mathlib.Core.Bool.{Bool, true, false, cond}
 use mathlib.Core.List.{List, ◌∷◌}
 use native.Mathlib.Omega.{arith}
 use lib.ListN.{length}
-use lib.Dec.{ltb, leb, eqb}
-use borrow.Author.Tests.{ltb-true, ltb-false, leb-true, leb-false, eqb-true, eqb-false, eq-eqb, ne_eqb, lt-ltb, le-ltb}
-use Rattle.epmd_client_rules.specs.Readings.{Line}
+use lib.Dec.{ltb, leb}
+use borrow.Author.Tests.{ltb-true, ltb-false, leb-true, leb-false}
+use Rattle.std.specs.Prelude.{Option, Some, None}
+use Rattle.epmd_client_rules.specs.Readings.{Line, most}
 use Rattle.epmd_client_names.specs.declared.tally.Tally.{Tally}
-use Rattle.epmd_client_names.specs.Tallies.{Set, Means, beaten_of, join_of}
+use Rattle.epmd_client_names.specs.declared.tally.Tally.TheVariants as tally
+use Rattle.epmd_client_names.specs.Tallies.{Set, Over, Means, fewest_of, beaten_of, several_of, join_by, join_of, longer_of}
 
 -- the same readings, the same tally
-pub same : (P Q : Set) → ((x : List Line) → P x → Q x) → ((x : List Line) → Q x → P x) → (n k : ℕ) → Means P n k → Means Q n k
-same P Q f g zero k m = λ x q. m x (g x q)
-same P Q f g (suc zero) k m = (m.0, f _ m.1, m.2, λ y q. m.3 y (g y q))
-same P Q f g (suc (suc zero)) k m = (m.0, f _ m.1, m.2, (λ y q h. m.3 y (g y q) h), m.4, f _ m.5, m.6)
-same P Q f g (suc (suc (suc n))) k m = (m.0, m.1, f _ m.2, f _ m.3, m.4, m.5, m.6, λ z q. m.7 z (g z q))
+pub same : (P Q : Set) → ((x : List Line) → P x → Q x) → ((x : List Line) → Q x → P x) → (t : Tally) → Means P t → Means Q t
+same P Q f g tally.Nothing m = λ x q. m x (g x q)
+same P Q f g tally.Over m = (m.0, f _ m.1, λ y q. m.2 y (g y q))
+same P Q f g (tally.One k) m = ((m.0.0, f _ m.0.1, m.0.2, λ y q. m.0.3 y (g y q)), m.1)
+same P Q f g (tally.Least k) m = ((m.0.0, f _ m.0.1, m.0.2, (λ y q h. m.0.3 y (g y q) h), m.0.4, f _ m.0.5, m.0.6), m.1)
+same P Q f g (tally.Several k) m = ((m.0.0, m.0.1, f _ m.0.2, f _ m.0.3, m.0.4, m.0.5, m.0.6, λ z q. m.0.7 z (g z q)), m.1)
+
+-- ---- the fewest lines
+
+pub same_number : (i k : ℕ) → ◌≡◌ {A = Option ℕ} (Some i) (Some k) → i ≡ k
+same_number i k e = cc
+
+pub no_number : (k : ℕ) → ◌≡◌ {A = Option ℕ} None (Some k) → ⊥
+no_number k e = let z : ◌≡◌ {A = ℕ} 0 1 = cc in omega arith
+
+some_number : (k : ℕ) → ◌≡◌ {A = Option ℕ} (Some k) None → ⊥
+some_number k e = no_number k (sym e)
 
 -- a reading with the fewest lines
 abbrev pub Fewest : Set → ℕ → Type 0
 Fewest P k = (x : List Line) × P x × (length x ≡ k) × ((y : List Line) → P y → k ≤ length y)
 
-fewest_of : (P : Set) (n k : ℕ) → Means P (suc n) k → Fewest P k
-fewest_of P zero k m = (m.0, m.1, m.2, λ y q. omega (arith, ap length (m.3 y q)))
-fewest_of P (suc zero) k m = (m.0, m.1, m.2, λ y q. by y q (leb (length y) k) refl) where
-  by : (y : List Line) → P y → (t : Bool) → leb (length y) k ≡ t → k ≤ length y
-  by y q true e = omega (arith, ap length (m.3 y q (leb-true (length y) k e)), m.2)
-  by y q false e = omega (arith, leb-false (length y) k e)
-fewest_of P (suc (suc n)) k m = (m.0, m.2, m.4, m.7)
+-- some reading, and none with fewer lines
+abbrev pub AtLeast : Set → ℕ → Type 0
+AtLeast P k = (x : List Line) × P x × ((y : List Line) → P y → k ≤ length y)
 
-pub fewest : (P : Set) (n k : ℕ) → Means P n k → (n ≡ 0 → ⊥) → Fewest P k
-fewest P zero k m h = absurd (h refl)
-fewest P (suc n) k m h = fewest_of P n k m
+module _ (P : Set) where
+  pub nothing : (t : Tally) → Means P t → fewest_of t ≡ None → (x : List Line) → P x → ⊥
+  nothing tally.Nothing m e = m
+  nothing tally.Over m e = absurd (some_number (most + 1) e)
+  nothing (tally.One k) m e = absurd (some_number k e)
+  nothing (tally.Least k) m e = absurd (some_number k e)
+  nothing (tally.Several k) m e = absurd (some_number k e)
 
-pub nothing : (P : Set) (n k : ℕ) → Means P n k → n ≡ 0 → (x : List Line) → P x → ⊥
-nothing P n k m h = subst (λ (i : ℕ). Means P i k) h m
+  pub fewest : (t : Tally) (k : ℕ) → Means P t → fewest_of t ≡ Some k → k ≤ most → Fewest P k
+  fewest tally.Nothing k m e h = absurd (no_number k e)
+  fewest tally.Over k m e h = absurd (omega (arith, same_number (most + 1) k e))
+  fewest (tally.One n) k m e h = subst (Fewest P) (same_number n k e) (m.0.0, m.0.1, m.0.2, λ y q. omega (arith, ap length (m.0.3 y q), m.0.2))
+  fewest (tally.Least n) k m e h = subst (Fewest P) (same_number n k e) (m.0.0, m.0.1, m.0.2, λ y q. by y q (leb (length y) n) refl) where
+    by : (y : List Line) → P y → (t : Bool) → leb (length y) n ≡ t → n ≤ length y
+    by y q true f = omega (arith, ap length (m.0.3 y q (leb-true (length y) n f)), m.0.2)
+    by y q false f = omega (arith, leb-false (length y) n f)
+  fewest (tally.Several n) k m e h = subst (Fewest P) (same_number n k e) (m.0.0, m.0.2, m.0.4, m.0.7)
+
+  of_fewest : (k : ℕ) → Fewest P k → AtLeast P k
+  of_fewest k f = (f.0, f.1, f.3)
+
+  pub at_least : (t : Tally) (k : ℕ) → Means P t → fewest_of t ≡ Some k → AtLeast P k
+  at_least tally.Nothing k m e = absurd (no_number k e)
+  at_least tally.Over k m e = (m.0, m.1, λ y q. omega (arith, m.2 y q, same_number (most + 1) k e))
+  at_least (tally.One n) k m e = of_fewest k (fewest (tally.One n) k m e (omega (arith, m.1, same_number n k e)))
+  at_least (tally.Least n) k m e = of_fewest k (fewest (tally.Least n) k m e (omega (arith, m.1, same_number n k e)))
+  at_least (tally.Several n) k m e = of_fewest k (fewest (tally.Several n) k m e (omega (arith, m.1, same_number n k e)))
+
+  high : (t : Tally) (k : ℕ) → Means P t → fewest_of t ≡ Some k → k ≤ most + 1
+  high tally.Nothing k m e = absurd (no_number k e)
+  high tally.Over k m e = omega (arith, same_number (most + 1) k e)
+  high (tally.One n) k m e = omega (arith, m.1, same_number n k e)
+  high (tally.Least n) k m e = omega (arith, m.1, same_number n k e)
+  high (tally.Several n) k m e = omega (arith, m.1, same_number n k e)
 
 -- ---- of two sets that have no reading in common
-
-abbrev pub MeansT : Set → Tally → Type 0
-MeansT P t = Means P t.kind t.lines
 
 module _ (P Q : Set) where
   abbrev pub Or : Set
   Or x = P x ⊎ Q x
 
   -- those of the first have fewer lines
-  under : (n k j : ℕ) → Means P n k → (n ≡ 0 → ⊥) → Fewest Q j → k < j → MeansT Or (beaten_of (record { kind = n; lines = k }))
-  under zero k j m z l h = absurd (z refl)
-  under (suc zero) k j m z l h =
-      (m.0, inl m.1, m.2, (λ y o e. ⊎_elim (λ p. m.3 y p) (λ q. absurd (omega (arith, l.3 y q))) o), l.0, inr l.1, omega (arith, l.2))
-  under (suc (suc zero)) k j m z l h =
-      (m.0, inl m.1, m.2, (λ y o e. ⊎_elim (λ p. m.3 y p e) (λ q. absurd (omega (arith, l.3 y q))) o), m.4, inl m.5, m.6)
-  under (suc (suc (suc n))) k j m z l h =
-      rw (ne_eqb (suc (suc (suc n))) 1 (omega arith))
-      (m.0, m.1, inl m.2, inl m.3, m.4, m.5, m.6, λ z o. ⊎_elim (λ p. m.7 z p) (λ q. omega (arith, l.3 z q)) o)
+  under : (t : Tally) (i j : ℕ) → Means P t → fewest_of t ≡ Some i → AtLeast Q j → i < j → j ≤ most + 1 → Means Or (beaten_of t)
+  under tally.Nothing i j m e l h f = absurd (no_number i e)
+  under tally.Over i j m e l h f = absurd (omega (arith, same_number (most + 1) i e))
+  under (tally.One k) i j m e l h f =
+      let q : k ≡ i = same_number k i e in (
+        (
+          m.0.0,
+          inl m.0.1,
+          m.0.2,
+          (λ y o g. ⊎_elim (λ p. m.0.3 y p) (λ p. absurd (omega (arith, l.2 y p))) o),
+          l.0,
+          inr l.1,
+          omega (arith, l.2 l.0 l.1),
+        ),
+        m.1,
+      )
+  under (tally.Least k) i j m e l h f =
+      let q : k ≡ i = same_number k i e in (
+        (m.0.0, inl m.0.1, m.0.2, (λ y o g. ⊎_elim (λ p. m.0.3 y p g) (λ p. absurd (omega (arith, l.2 y p))) o), m.0.4, inl m.0.5, m.0.6),
+        m.1,
+      )
+  under (tally.Several k) i j m e l h f =
+      let q : k ≡ i = same_number k i e in (
+        (m.0.0, m.0.1, inl m.0.2, inl m.0.3, m.0.4, m.0.5, m.0.6, λ z o. ⊎_elim (λ p. m.0.7 z p) (λ p. omega (arith, l.2 z p)) o),
+        m.1,
+      )
 
   -- as many
-  level : (k : ℕ) → Fewest P k → Fewest Q k → ((x : List Line) → P x → Q x → ⊥) → Means Or 3 k
-  level k a b apart =
-      (a.0, b.0, inl a.1, inr b.1, a.2, b.2, (λ e. apart b.0 (subst P e a.1) b.1), λ z o. ⊎_elim (λ p. a.3 z p) (λ q. b.3 z q) o)
+  level : (a b : Tally) (k : ℕ) → Means P a → Means Q b → fewest_of a ≡ Some k → fewest_of b ≡ Some k → ((x : List Line) → P x → Q x → ⊥) → Means Or (several_of k)
+  level a b k m w e f apart = by (ltb most k) refl where
+    by : (t : Bool) → ltb most k ≡ t → Means Or (cond t tally.Over (tally.Several k))
+    by true g =
+        let i : AtLeast P k = at_least P a k m e in
+        let j : AtLeast Q k = at_least Q b k w f in
+        let l : most < k = ltb-true most k g in
+        (i.0, inl i.1, λ y o. ⊎_elim (λ p. omega (arith, i.2 y p)) (λ q. omega (arith, j.2 y q)) o)
+    by false g =
+        let l : k ≤ most = ltb-false most k g in
+        let i : Fewest P k = fewest P a k m e l in
+        let j : Fewest Q k = fewest Q b k w f l in
+        ((i.0, j.0, inl i.1, inr j.1, i.2, j.2, (λ q. apart j.0 (subst P q i.1) j.1), λ z o. ⊎_elim (λ p. i.3 z p) (λ q. j.3 z q) o), l)
 
-swap : (P Q : Set) (n k : ℕ) → Means (Or Q P) n k → Means (Or P Q) n k
-swap P Q n k m = same (Or Q P) (Or P Q) (λ x o. ⊎_elim (λ q. inr q) (λ p. inl p) o) (λ x o. ⊎_elim (λ q. inr q) (λ p. inl p) o) n k m
+swap : (P Q : Set) (t : Tally) → Means (Or Q P) t → Means (Or P Q) t
+swap P Q t m = same (Or Q P) (Or P Q) (λ x o. ⊎_elim (λ q. inr q) (λ p. inl p) o) (λ x o. ⊎_elim (λ q. inr q) (λ p. inl p) o) t m
 
-module _ (a b : Tally) where
-  join_left : a.kind ≡ 0 → join_of a b ≡ b
+module _ (P Q : Set) (a b : Tally) (m : Means P a) (w : Means Q b) (apart : (x : List Line) → P x → Q x → ⊥) where
+  both : (i k : ℕ) → fewest_of a ≡ Some i → fewest_of b ≡ Some k → (t u : Bool) → ltb i k ≡ t → ltb k i ≡ u
+      → Means (Or P Q) (cond t (beaten_of a) (cond u (beaten_of b) (several_of i)))
+  both i k e f true u g h = under P Q a i k m e (at_least Q b k w f) (ltb-true i k g) (high Q b k w f)
+  both i k e f false true g h = swap P Q (beaten_of b) (under Q P b k i w f (at_least P a i m e) (ltb-true k i h) (high P a i m e))
+  both i k e f false false g h =
+      let q : k ≡ i = omega (arith, ltb-false i k g, ltb-false k i h) in
+      level P Q a b i m w e (f ∙ ap (λ (n : ℕ). Some n) q) apart
+
+  pub joined : Means (Or P Q) (join_of a b)
   unfolding join_of
-  join_left h = rw (eq-eqb a.kind 0 h)
-
-  join_right : (a.kind ≡ 0 → ⊥) → b.kind ≡ 0 → join_of a b ≡ a
-  unfolding join_of
-  join_right g h = rw (ne_eqb a.kind 0 g, eq-eqb b.kind 0 h)
-
-  module _ (g : a.kind ≡ 0 → ⊥) (h : b.kind ≡ 0 → ⊥) where
-    join_less : a.lines < b.lines → join_of a b ≡ beaten_of a
-    unfolding join_of
-    join_less l = rw (ne_eqb a.kind 0 g, ne_eqb b.kind 0 h, lt-ltb a.lines b.lines l)
-
-    pub join_more : b.lines < a.lines → join_of a b ≡ beaten_of b
-    unfolding join_of
-    join_more l =
-        rw (ne_eqb a.kind 0 g, ne_eqb b.kind 0 h, le-ltb a.lines b.lines (omega arith), lt-ltb b.lines a.lines l)
-
-    join_same : a.lines ≡ b.lines → join_of a b ≡ record { kind = 3; lines = a.lines }
-    unfolding join_of
-    join_same l =
-        rw (ne_eqb a.kind 0 g, ne_eqb b.kind 0 h, le-ltb a.lines b.lines (omega arith), le-ltb b.lines a.lines (omega arith))
-
-module _ (P Q : Set) (a b : Tally) (m : MeansT P a) (w : MeansT Q b) (apart : (x : List Line) → P x → Q x → ⊥) where
-  both_some : (a.kind ≡ 0 → ⊥) → (b.kind ≡ 0 → ⊥) → (t u : Bool) → ltb a.lines b.lines ≡ t → ltb b.lines a.lines ≡ u → MeansT (Or P Q) (join_of a b)
-  both_some g h true u e f =
-      let l = ltb-true a.lines b.lines e in
-      rw (join_less a b g h l) (under P Q a.kind a.lines b.lines m g (fewest Q b.kind b.lines w h) l)
-  both_some g h false true e f =
-      let l = ltb-true b.lines a.lines f in
-      rw (join_more a b g h l)
-      (swap P Q (beaten_of b).kind (beaten_of b).lines (under Q P b.kind b.lines a.lines w h (fewest P a.kind a.lines m g) l))
-  both_some g h false false e f =
-      let q : a.lines ≡ b.lines = omega (arith, ltb-false a.lines b.lines e, ltb-false b.lines a.lines f) in
-      rw (join_same a b g h q)
-      (level P Q a.lines (fewest P a.kind a.lines m g)
-      (subst (λ (k : ℕ). Fewest Q k) (sym q) (fewest Q b.kind b.lines w h)) apart)
-
-  some_left : (a.kind ≡ 0 → ⊥) → (t : Bool) → eqb b.kind 0 ≡ t → MeansT (Or P Q) (join_of a b)
-  some_left g true e =
-      let z : b.kind ≡ 0 = eqb-true b.kind 0 e in
-      rw (join_right a b g z)
-      (same P (Or P Q) (λ x p. inl p) (λ x o. ⊎_elim (λ p. p) (λ q. absurd (nothing Q b.kind b.lines w z x q)) o) a.kind a.lines m)
-  some_left g false e = both_some g (eqb-false b.kind 0 e) (ltb a.lines b.lines) (ltb b.lines a.lines) refl refl
-
-  by_left : (t : Bool) → eqb a.kind 0 ≡ t → MeansT (Or P Q) (join_of a b)
-  by_left true e =
-      let z : a.kind ≡ 0 = eqb-true a.kind 0 e in
-      rw (join_left a b z)
-      (same Q (Or P Q) (λ x q. inr q) (λ x o. ⊎_elim (λ p. absurd (nothing P a.kind a.lines m z x p)) (λ q. q) o) b.kind b.lines w)
-  by_left false e = some_left (eqb-false a.kind 0 e) (eqb b.kind 0) refl
-
-  pub joined : MeansT (Or P Q) (join_of a b)
-  joined = by_left (eqb a.kind 0) refl
-
--- no more lines than the larger number
-module _ (m : ℕ) where
-  either_lines : (t : Bool) (a b : Tally) → a.lines ≤ m → b.lines ≤ m → (cond t a b).lines ≤ m
-  either_lines true a b f g = f
-  either_lines false a b f g = g
-
-  beaten_lines : (a : Tally) → a.lines ≤ m → (beaten_of a).lines ≤ m
-  beaten_lines a f = either_lines (eqb a.kind 1) (record { kind = 2; lines = a.lines }) a f f
-
-  pub join_lines : (a b : Tally) → a.lines ≤ m → b.lines ≤ m → (join_of a b).lines ≤ m
-  unfolding join_of
-  join_lines a b f g =
-      either_lines (eqb a.kind 0) b _ g
-      (either_lines (eqb b.kind 0) a _ f
-      (either_lines (ltb a.lines b.lines) (beaten_of a) _ (beaten_lines a f)
-      (either_lines (ltb b.lines a.lines) (beaten_of b) (record { kind = 3; lines = a.lines }) (beaten_lines b g) f)))
+  joined = by (fewest_of a) (fewest_of b) refl refl where
+    by : (x y : Option ℕ) → fewest_of a ≡ x → fewest_of b ≡ y → Means (Or P Q) (join_by x y a b)
+    by None y e f = same Q (Or P Q) (λ x q. inr q) (λ x o. ⊎_elim (λ p. absurd (nothing P a m e x p)) (λ q. q) o) b w
+    by (Some i) None e f = same P (Or P Q) (λ x p. inl p) (λ x o. ⊎_elim (λ p. p) (λ q. absurd (nothing Q b w f x q)) o) a m
+    by (Some i) (Some k) e f = both i k e f (ltb i k) (ltb k i) refl refl
 
 -- ---- one more line in front of each
 
-pub later : (P : Set) (l : Line) (n k : ℕ) → Means P n k → Means (λ x. (y : List Line) × P y × (x ≡ l ∷ y)) n (suc k)
-later P l zero k m = λ x q. m q.0 q.1
-later P l (suc zero) k m = (l ∷ m.0, (m.0, m.1, refl), ap suc m.2, λ y q. q.2 ∙ ap (λ (t : List Line). l ∷ t) (m.3 q.0 q.1))
-later P l (suc (suc zero)) k m = (
-  l ∷ m.0,
-  (m.0, m.1, refl),
-  ap suc m.2,
-  (λ y q h. q.2 ∙ ap (λ (t : List Line). l ∷ t) (m.3 q.0 q.1 (omega (arith, ap length q.2)))),
-  l ∷ m.4,
-  (m.4, m.5, refl),
-  omega (arith, m.6),
-)
-later P l (suc (suc (suc n))) k m = (
-  l ∷ m.0,
-  l ∷ m.1,
-  (m.0, m.2, refl),
-  (m.1, m.3, refl),
-  ap suc m.4,
-  ap suc m.5,
-  (λ e. m.6 (tail_same m.0 m.1 e)),
-  λ z q. omega (arith, ap length q.2, m.7 q.0 q.1),
-) where
+module _ (P : Set) (l : Line) where
+  abbrev Later : Set
+  Later x = (y : List Line) × P y × (x ≡ l ∷ y)
+
   tail_same : (a b : List Line) → l ∷ a ≡ l ∷ b → a ≡ b
   tail_same a b e = cc
+
+  -- where the fewest had 64
+  too_many : (k : ℕ) → Fewest P k → most ≤ k → Over Later
+  too_many k f h = (l ∷ f.0, (f.0, f.1, refl), λ y q. omega (arith, f.3 q.0 q.1, ap length q.2))
+
+  pub later : (t : Tally) → Means P t → Means Later (longer_of t)
+  later tally.Nothing m = λ x q. m q.0 q.1
+  later tally.Over m = (l ∷ m.0, (m.0, m.1, refl), λ y q. omega (arith, m.2 q.0 q.1, ap length q.2))
+  later (tally.One k) m = by (ltb k most) refl where
+    by : (t : Bool) → ltb k most ≡ t → Means Later (cond t (tally.One (k + 1)) tally.Over)
+    by true e = (
+      (
+        l ∷ m.0.0,
+        (m.0.0, m.0.1, refl),
+        omega (arith, m.0.2),
+        λ y q. q.2 ∙ ap (λ (t : List Line). l ∷ t) (m.0.3 q.0 q.1),
+      ),
+      omega (arith, ltb-true k most e),
+    )
+    by false e = too_many k (fewest P (tally.One k) k m refl m.1) (ltb-false k most e)
+  later (tally.Least k) m = by (ltb k most) refl where
+    by : (t : Bool) → ltb k most ≡ t → Means Later (cond t (tally.Least (k + 1)) tally.Over)
+    by true e = (
+      (
+        l ∷ m.0.0,
+        (m.0.0, m.0.1, refl),
+        omega (arith, m.0.2),
+        (λ y q h. q.2 ∙ ap (λ (t : List Line). l ∷ t) (m.0.3 q.0 q.1 (omega (arith, ap length q.2)))),
+        l ∷ m.0.4,
+        (m.0.4, m.0.5, refl),
+        omega (arith, m.0.6),
+      ),
+      omega (arith, ltb-true k most e),
+    )
+    by false e = too_many k (fewest P (tally.Least k) k m refl m.1) (ltb-false k most e)
+  later (tally.Several k) m = by (ltb k most) refl where
+    by : (t : Bool) → ltb k most ≡ t → Means Later (cond t (tally.Several (k + 1)) tally.Over)
+    by true e = (
+      (
+        l ∷ m.0.0,
+        l ∷ m.0.1,
+        (m.0.0, m.0.2, refl),
+        (m.0.1, m.0.3, refl),
+        omega (arith, m.0.4),
+        omega (arith, m.0.5),
+        (λ q. m.0.6 (tail_same m.0.0 m.0.1 q)),
+        λ z q. omega (arith, ap length q.2, m.0.7 q.0 q.1),
+      ),
+      omega (arith, ltb-true k most e),
+    )
+    by false e = too_many k (fewest P (tally.Several k) k m refl m.1) (ltb-false k most e)

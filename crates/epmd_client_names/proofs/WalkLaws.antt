@@ -2,64 +2,66 @@
 use Prim.Native.Nat.{ℕ, suc, ◌+◌, ◌-◌, ◌≤◌, ◌<◌}
 use mathlib.Core.Path.{◌≡◌, refl, sym, ap, ◌∙◌, subst}
 use mathlib.Core.Logic.{⊎_elim}
-use mathlib.Core.Bool.{Bool, true, false, cond}
+use mathlib.Core.Bool.{true, false}
 use mathlib.Core.List.{List, [], ◌∷◌, ◌++◌, append_assoc, append-nil}
 use native.Mathlib.Omega.{arith}
 use lib.ListN.{length, drop, set, replicate, length-append}
 use lib.Seq.{set_at}
+use Rattle.std.specs.Prelude.{Option, Some, None, IsSome}
+use Rattle.std.specs.Option.{option_eq}
 use lib.Dec.{eqb}
-use borrow.Author.Tests.{eqb-true, eqb-false}
+use borrow.Author.Tests.{eqb-false}
 use Rattle.wire.specs.Table.{table_bytes}
 use Rattle.wire.proofs.TableLaws.{bytes_append}
 use Rattle.epmd_rules.specs.Replies.{name_word}
 use Rattle.epmd_client_rules.specs.declared.reply.LineAt.{LineAt}
 use Rattle.epmd_client_rules.specs.Readings.{Line, line_text, lines_text, lines_at, no_line, most, lines_told}
-use Rattle.epmd_client_names.specs.declared.text.Tail.TheVariants.{Found}
 use Rattle.epmd_client_names.specs.declared.tally.Tally.{Tally}
-use Rattle.epmd_client_names.specs.Text.{has_at, tail_at, NameEnds}
-use Rattle.epmd_client_names.specs.Tallies.{Means, leads_of}
+use Rattle.epmd_client_names.specs.Text.{has_at, space_at, found, tail_at}
+use Rattle.epmd_client_names.specs.Tallies.{Means, fewest_of}
 use Rattle.epmd_client_names.specs.Survey.{Lines, FirstIs, FirstBelow, Exact}
-use Rattle.epmd_client_names.specs.Walk.{Lead}
-use Rattle.epmd_client_names.proofs.TextLaws.{has_of}
+use Rattle.epmd_client_names.specs.Walk.{Lead, FirstLen}
+use Rattle.epmd_client_names.proofs.TextLaws.{has_of, port_of, next_of}
 use Rattle.epmd_client_names.proofs.PortLaws.{tail_length}
-use Rattle.epmd_client_names.proofs.TallyLaws.{Fewest, fewest, nothing}
+use Rattle.epmd_client_names.proofs.TallyLaws.{same_number, no_number, Fewest, fewest, at_least, nothing}
 use Rattle.epmd_client_names.proofs.LineLaws.{Stands, uncons, cons, line_long, word, beyond}
 use Rattle.epmd_client_names.proofs.SurveyLaws.{First, first, below_one, below_split, skip, all_below}
 
 -- ---- the length of its first name: the one whose tally has as few lines
 
-module _ (s : List ℕ) (p k n : ℕ) (t : Tally) (m : Means (Exact s p n) t.kind t.lines) (x : List Line) (l : Lead s p k x) where
-  pub lead_first : leads_of t k ≡ true → FirstIs n x
-  unfolding leads_of
-  lead_first h = by (eqb t.kind 0) refl h where
-    by : (b : Bool) → eqb t.kind 0 ≡ b → cond b false (eqb t.lines k) ≡ true → FirstIs n x
-    by true e f = absurd (let z : ◌≡◌ {A = ℕ} 0 1 = cc in omega arith)
-    by false e f =
-        let y : Fewest (Exact s p n) t.lines = fewest (Exact s p n) t.kind t.lines m (eqb-false t.kind 0 e) in
-        subst (FirstIs n) (l.only y.0 y.1.0 (omega (arith, y.2, eqb-true t.lines k f))) y.1.1
+-- what the test tells
+not_same : (o : Option ℕ) (k : ℕ) → option_eq eqb o (Some k) ≡ false → o ≡ Some k → ⊥
+not_same None k h e = no_number k e
+not_same (Some j) k h e = eqb-false j k h (same_number j k e)
 
-  lead_not : leads_of t k ≡ false → FirstIs n x → ⊥
-  unfolding leads_of
-  lead_not h f = by (eqb t.kind 0) refl h where
-    by : (b : Bool) → eqb t.kind 0 ≡ b → cond b false (eqb t.lines k) ≡ false → ⊥
-    by true e g = nothing (Exact s p n) t.kind t.lines m (eqb-true t.kind 0 e) x (l.reads, f)
-    by false e g =
-        let y : Fewest (Exact s p n) t.lines = fewest (Exact s p n) t.kind t.lines m (eqb-false t.kind 0 e) in
-        let le : t.lines ≤ length x = y.3 x (l.reads, f) in
+module _ (s : List ℕ) (p k n : ℕ) (small : k ≤ most) (t : Tally) (m : Means (Exact s p n) t) (x : List Line) (l : Lead s p k x) where
+  lead_not : (fewest_of t ≡ Some k → ⊥) → FirstIs n x → ⊥
+  lead_not h f = by (fewest_of t) refl where
+    by : (o : Option ℕ) → fewest_of t ≡ o → ⊥
+    by None e = nothing (Exact s p n) t m e x (l.reads, f)
+    by (Some j) e =
+        let le : j ≤ length x = (at_least (Exact s p n) t j m e).2 x (l.reads, f) in
+        let y : Fewest (Exact s p n) j = fewest (Exact s p n) t j m e (omega (arith, l.lines)) in
         let q : y.0 ≡ x = l.only y.0 y.1.0 (omega (arith, y.2, l.lines)) in
-        eqb-false t.lines k g (omega (arith, y.2, ap length q, l.lines))
+        let same : j ≡ k = omega (arith, y.2, ap length q, l.lines) in
+        h (e ∙ ap (λ (i : ℕ). Some i) same)
 
-  lead_turn : leads_of t k ≡ false → (FirstBelow n x → ⊥) → FirstBelow (n + 1) x → ⊥
-  lead_turn h f b = ⊎_elim (λ e. f e.1) (λ e. lead_not h e.1) (below_split s p n x (l.reads, b))
+  pub lead_turn : option_eq eqb (fewest_of t) (Some k) ≡ false → (FirstBelow n x → ⊥) → FirstBelow (n + 1) x → ⊥
+  lead_turn h f b = ⊎_elim (λ e. f e.1) (λ e. lead_not (not_same (fewest_of t) k h) e.1) (below_split s p n x (l.reads, b))
 
-  pub lead_next : (m : ℕ) → p ≤ length s → NameEnds s (p + 5) (n + 1) m → leads_of t k ≡ false → (FirstBelow n x → ⊥) → FirstBelow m x → ⊥
-  lead_next m h e q f b = lead_turn q f (skip s p (n + 1) m h e x (l.reads, b)).1
+pub lead_skip : (s : List ℕ) (p k n : ℕ) → p ≤ length s → space_at s (p + 5 + n) ≡ false → (x : List Line) → Lead s p k x → (FirstBelow n x → ⊥) → FirstBelow (n + 1) x → ⊥
+lead_skip s p k n h e x l f b = f (skip s p n h e x (l.reads, b)).1
 
-pub lead_start : (s : List ℕ) (p k m : ℕ) → p ≤ length s → NameEnds s (p + 5) 1 m → (x : List Line) → Lead s p k x → FirstBelow m x → ⊥
-lead_start s p k m h e x l b = below_one s p x (skip s p 1 m h e x (l.reads, b))
+pub lead_start : (s : List ℕ) (p k : ℕ) (x : List Line) → Lead s p k x → FirstBelow 1 x → ⊥
+lead_start s p k x l b = below_one s p x (l.reads, b)
 
 pub lead_end : (s : List ℕ) (p k : ℕ) (x : List Line) → p < length s → Lead s p k x → (FirstBelow 256 x → ⊥) → ⊥
 lead_end s p k x h l f = f (all_below s p h x l.reads).1
+
+-- some name is found
+len_some : (s : List ℕ) (p k : ℕ) (o : Option ℕ) → FirstLen s p k o → (x : List Line) → Lead s p k x → IsSome o
+len_some s p k None f x l = absurd (f x l)
+len_some s p k (Some n) f x l = refl
 
 -- ---- one line of the walk
 
@@ -69,7 +71,7 @@ pub record Next (s : List ℕ) (p k n : ℕ) (x : List Line) : Type 0 where
   pub next : ℕ
   pub are : x ≡ line ∷ rest
   pub stands : Stands s p line next
-  pub found : tail_at s (p + 5 + n) ≡ Found line.port next
+  pub tail : tail_at s (p + 5 + n) ≡ found line.port next
   pub long : length line.name ≡ n
   pub lead : Lead s next k rest
   pub inside : p + 5 + n < length s
@@ -87,7 +89,7 @@ walk_next s p k n (y ∷ ys) h l f =
       next = q.next;
       are = refl;
       stands = q.stands;
-      found = q.found;
+      tail = q.tail;
       long = f;
       lead = record {
         reads = q.rest;
@@ -165,29 +167,35 @@ module _ (s : List ℕ) (count : ℕ) (es : List LineAt) (p i : ℕ) (f : Sofar 
   pub sofar_line : (n : ℕ) → FirstIs n f.left → Next s p (count - i - 1) n f.left
   sofar_line n h = walk_next s p (count - i - 1) n f.left f.inside some_left h
 
+  pub sofar_some : (o : Option ℕ) → FirstLen s p (count - i) o → IsSome o
+  sofar_some o h = len_some s p (count - i) o h f.left f.rest
+
+  pub sofar_first : (o : Option ℕ) (n : ℕ) → o ≡ Some n → FirstLen s p (count - i) o → FirstIs n f.left
+  sofar_first o n e h = (subst (FirstLen s p (count - i)) e h).0 f.left f.rest
+
   -- the next of the lines that are not told yet
   room : i < most → es ≡ lines_at 4 f.done ++ (no_line ∷ replicate (most - (i + 1)) no_line)
   room h =
       let e : most - i ≡ suc (most - (i + 1)) = omega arith in
       f.are ∙ ap (λ (k : ℕ). lines_at 4 f.done ++ replicate k no_line) e
 
-  pub sofar_next : (n port next : ℕ) → i < most → FirstIs n f.left → tail_at s (p + 5 + n) ≡ Found port next
+  pub sofar_next : (n port next : ℕ) → i < most → FirstIs n f.left → tail_at s (p + 5 + n) ≡ found port next
       → Sofar s count (set es i (record { at = 4 + (p + 5); len = n; port = port })) next (i + 1)
   unfolding entry
   sofar_next n port next h first t =
       let w : Next s p (count - i - 1) n f.left = sofar_line n first in
       let z : Line = w.line in
       let done : List Line = f.done ++ (z ∷ []) in
-      let g : Found port next ≡ Found z.port w.next = sym t ∙ w.found in
-      let pe : port ≡ z.port = cc in
-      let ne : w.next ≡ next = cc in
+      let g : found port next ≡ found z.port w.next = sym t ∙ w.tail in
+      let pe : port ≡ z.port = ap port_of g in
+      let ne : w.next ≡ next = sym (ap next_of g) in
       let at : 4 + (p + 5) ≡ 4 + length (lines_text f.done) + length name_word = omega (arith, f.upto) in
       let len : n ≡ length z.name = sym w.long in
       let new : LineAt = record { at = 4 + (p + 5); len = n; port = port } in
       let same : new ≡ entry (4 + length (lines_text f.done)) z = λ j. record { at = at j; len = len j; port = pe j } in
       let all : f.done ++ f.left ≡ done ++ w.rest = ap (λ (l : List Line). f.done ++ l) w.are ∙ sym (append_assoc f.done (z ∷ []) w.rest) in
       let k : count - i - 1 ≡ count - (i + 1) = omega arith in
-      let tail : List LineAt = replicate (most - (i + 1)) no_line in
+      let left : List LineAt = replicate (most - (i + 1)) no_line in
       record {
         done = done;
         left = w.rest;
@@ -198,10 +206,10 @@ module _ (s : List ℕ) (count : ℕ) (es : List LineAt) (p i : ℕ) (f : Sofar 
         inside = omega (arith, w.stands.inside, ne);
         are =
             ap (λ (l : List LineAt). set l i new) (room h)
-            ∙ set_at (lines_at 4 f.done) no_line tail new i (places_length 4 f.done ∙ f.many)
-            ∙ ap (λ (e : LineAt). lines_at 4 f.done ++ (e ∷ tail)) same
-            ∙ sym (append_assoc (lines_at 4 f.done) (entry (4 + length (lines_text f.done)) z ∷ []) tail)
-            ∙ ap (λ (l : List LineAt). l ++ tail) (sym (places_more 4 f.done z));
+            ∙ set_at (lines_at 4 f.done) no_line left new i (places_length 4 f.done ∙ f.many)
+            ∙ ap (λ (e : LineAt). lines_at 4 f.done ++ (e ∷ left)) same
+            ∙ sym (append_assoc (lines_at 4 f.done) (entry (4 + length (lines_text f.done)) z ∷ []) left)
+            ∙ ap (λ (l : List LineAt). l ++ left) (sym (places_more 4 f.done z));
       }
 
 no_lines : (x : List Line) → length x ≡ 0 → x ≡ []

@@ -1,12 +1,11 @@
 -- What the code finds at a place of a text: a word, a digit, a port, the end of a line.
-use Rattle.std.specs.Prelude.{ℕ, zero, suc, ◌+◌, ◌*◌, ◌-◌, ◌≤◌, ◌<◌, ◌≡◌, Bool, cond, List, [], ◌∷◌, ◌++◌, length, get_or, ltb, leb, eqb}
+use Rattle.std.specs.Prelude.{ℕ, zero, suc, ◌+◌, ◌*◌, ◌-◌, Bool, cond, Option, Some, None, List, [], ◌∷◌, ◌++◌, length, get_or, ltb, leb, eqb}
 use Rattle.wire.specs.Run.{part, same_bytes}
 use Rattle.wire.specs.Decimal.{decimal}
 use Rattle.epmd_rules.specs.Requests.{line_room}
 use Rattle.epmd_rules.specs.Replies.{port_word}
 use Rattle.epmd_client_rules.specs.Readings.{most}
 use Rattle.epmd_client_names.specs.declared.text.Tail.{Tail}
-use Rattle.epmd_client_names.specs.declared.text.Tail.TheVariants.{Missing, Found}
 
 -- the most bytes that 64 lines have
 abbrev pub longest : ℕ
@@ -18,32 +17,37 @@ tail_text port = port_word ++ (decimal port ++ (10 ∷ []))
 
 -- whether the bytes w stand at a place
 unfoldable pub has_at : List ℕ → ℕ → List ℕ → Bool
-has_at s at w = same_bytes (part at (length w) s) w
+has_at s at w = same_bytes w (part at (length w) s)
 
--- the digit at a place, 10 where there is none
-unfoldable pub digit_at : List ℕ → ℕ → ℕ
-digit_at s i = cond (leb (length s) i) 10 (cond (ltb (get_or s i 0) 48) 10 (cond (ltb 57 (get_or s i 0)) 10 (get_or s i 0 - 48)))
+-- whether a space stands at a place: a name may end before it
+unfoldable pub space_at : List ℕ → ℕ → Bool
+space_at s i = eqb (get_or s i 0) 32
+
+-- the digit at a place
+unfoldable pub digit_at : List ℕ → ℕ → Option ℕ
+digit_at s i = cond (leb (length s) i) None (cond (ltb (get_or s i 0) 48) None (cond (ltb 57 (get_or s i 0)) None (Some (get_or s i 0 - 48))))
+
+abbrev pub found : ℕ → ℕ → Option Tail
+found port next = Some (record { port = port; next = next })
 
 -- a newline at a place, behind a port
-unfoldable pub closed_at : List ℕ → ℕ → ℕ → Tail
-closed_at s i v = cond (ltb 65535 v) Missing (cond (leb (length s) i) Missing (cond (eqb (get_or s i 0) 10) (Found v (i + 1)) Missing))
+unfoldable pub closed_at : List ℕ → ℕ → ℕ → Option Tail
+closed_at s i v = cond (ltb 65535 v) None (cond (leb (length s) i) None (cond (eqb (get_or s i 0) 10) (found v (i + 1)) None))
+
+-- by the digit that stands there, if any
+abbrev pub by_digit : Option ℕ → Option Tail → (ℕ → Option Tail) → Option Tail
+by_digit None end more = end
+by_digit (Some d) end more = more d
 
 -- at most k digits more behind those that say v, and the newline; behind a leading zero there is none
-unfoldable pub port_from : ℕ → List ℕ → ℕ → ℕ → Tail
+unfoldable pub port_from : ℕ → List ℕ → ℕ → ℕ → Option Tail
 port_from zero s i v = closed_at s i v
 port_from (suc k) s i v =
-    cond (ltb 9 (digit_at s i)) (closed_at s i v)
-    (cond (eqb v 0) Missing (cond (ltb 6553 v) Missing (port_from k s (i + 1) (v * 10 + digit_at s i))))
+    by_digit (digit_at s i) (closed_at s i v) (λ d. cond (eqb v 0) None (cond (ltb 6553 v) None (port_from k s (i + 1) (v * 10 + d))))
 
-unfoldable pub port_at : List ℕ → ℕ → Tail
-port_at s i = cond (ltb 9 (digit_at s i)) Missing (port_from 4 s (i + 1) (digit_at s i))
+unfoldable pub port_at : List ℕ → ℕ → Option Tail
+port_at s i = by_digit (digit_at s i) None (λ d. port_from 4 s (i + 1) d)
 
 -- what follows a name, at a place: the port, and where the next line begins
-unfoldable pub tail_at : List ℕ → ℕ → Tail
-tail_at s q = cond (has_at s q port_word) (port_at s (q + 9)) Missing
-
--- r is the first length from n on at which a name from a place may end, since a space follows it, or 256
-pub record NameEnds (s : List ℕ) (from n r : ℕ) : Type 0 where
-  pub low : n ≤ r
-  pub high : r ≤ 256
-  pub none : (j : ℕ) → n ≤ j → j < r → get_or s (from + j) 0 ≡ 32 → ⊥
+unfoldable pub tail_at : List ℕ → ℕ → Option Tail
+tail_at s q = cond (has_at s q port_word) (port_at s (q + 9)) None

@@ -1,89 +1,97 @@
-// What is kept of a set of readings: its kind, and the fewest lines that one of them has.
+// What is kept of a set of readings.
 ghost use Rattle.std.specs.Prelude.{◌≡◌};
-ghost use Rattle.epmd_client_names.specs.Tallies.{beaten_of, join_of, leads_of, verdict_of};
+ghost use Rattle.epmd_client_names.specs.Tallies.{fewest_of, beaten_of, several_of, join_of, longer_of, verdict_of};
 
-use epmd_client_rules::reply::Listing;
 use epmd_client_rules::unreadable::Unreadable;
+use std::cmp::Ordering;
 
-// No reading; exactly one; one with the fewest lines, and others with more; two with the fewest.
-pub(crate) const NONE: u8 = 0;
+// The most lines that a reading has.
+const MOST_LINES: u8 = 64;
 
-pub(crate) const ONE: u8 = 1;
-
-pub(crate) const LEAST: u8 = 2;
-
-pub(crate) const SEVERAL: u8 = 3;
-
+// No reading; some, and all with more than 64 lines; exactly one; one with the fewest lines, and
+// others with more; two with the fewest. Beside each stands how many the fewest lines are.
 #[derive(Clone, Copy)]
-pub struct Tally {
-    pub kind: u8,
-    pub lines: u16,
+pub enum Tally {
+    Nothing,
+    Over,
+    One(u8),
+    Least(u8),
+    Several(u8),
 }
 
-// With readings beside them that all have more lines.
-fn beaten(a: Tally) -> Tally
-    ensures { result ≡ beaten_of a }
-{
-    if a.kind == ONE {
-        Tally {
-            kind: LEAST,
-            lines: a.lines,
+impl Tally {
+    // The fewest lines, 65 for any more than 64, as `fewest_of` says: `join` compares it with the others.
+    pub(crate) fn fewest(self) -> Option<u8>
+        ensures { result ≡ fewest_of self }
+    {
+        match self {
+            Tally::Nothing => None,
+            Tally::Over => Some(MOST_LINES + 1),
+            Tally::One(lines) | Tally::Least(lines) | Tally::Several(lines) => Some(lines),
         }
+    }
+
+    // With readings beside them that all have more lines.
+    fn beaten(self) -> Tally
+        ensures { result ≡ beaten_of self }
+    {
+        match self {
+            Tally::One(lines) => Tally::Least(lines),
+            other => other,
+        }
+    }
+
+    // Of two sets that have no reading in common.
+    #[tactic(auto, unfolding(crate::specs::Tallies::join_of))]
+    pub(crate) fn join(self, other: Tally) -> Tally
+        ensures { result ≡ join_of self other }
+    {
+        let Some(ours) = self.fewest() else {
+            return other;
+        };
+        let Some(theirs) = other.fewest() else {
+            return self;
+        };
+        match ours.cmp(&theirs) {
+            Ordering::Less => self.beaten(),
+            Ordering::Greater => other.beaten(),
+            Ordering::Equal => several(ours),
+        }
+    }
+
+    // With one more line in front of each.
+    pub(crate) fn longer(self) -> Tally
+        ensures { result ≡ longer_of self }
+    {
+        match self {
+            Tally::Nothing => Tally::Nothing,
+            Tally::One(lines) if lines < MOST_LINES => Tally::One(lines + 1),
+            Tally::Least(lines) if lines < MOST_LINES => Tally::Least(lines + 1),
+            Tally::Several(lines) if lines < MOST_LINES => Tally::Several(lines + 1),
+            _ => Tally::Over,
+        }
+    }
+
+    // What it says, of all readings, of those with at most 64 lines: how many lines the one has.
+    pub(crate) fn verdict(self) -> Result<u8, Unreadable>
+        ensures { result ≡ verdict_of self }
+    {
+        match self {
+            Tally::Nothing | Tally::Over => Err(Unreadable::WrongLength),
+            Tally::Least(lines) if lines < MOST_LINES => Err(Unreadable::Ambiguous),
+            Tally::One(lines) | Tally::Least(lines) => Ok(lines),
+            Tally::Several(_) => Err(Unreadable::Ambiguous),
+        }
+    }
+}
+
+// Two with so many lines each, and none with fewer.
+fn several(k: u8) -> Tally
+    ensures { result ≡ several_of k }
+{
+    if MOST_LINES < k {
+        Tally::Over
     } else {
-        a
+        Tally::Several(k)
     }
-}
-
-// Of two sets that have no reading in common.
-pub(crate) fn join(a: Tally, b: Tally) -> Tally
-    ensures { result ≡ join_of a b }
-{
-    if a.kind == NONE {
-        return b;
-    }
-    if b.kind == NONE {
-        return a;
-    }
-    if a.lines < b.lines {
-        return beaten(a);
-    }
-    if b.lines < a.lines {
-        return beaten(b);
-    }
-    Tally {
-        kind: SEVERAL,
-        lines: a.lines,
-    }
-}
-
-// Whether the fewest lines are k.
-pub(crate) fn leads(t: Tally, k: u16) -> bool
-    ensures { result ≡ leads_of t k }
-{
-    if t.kind == NONE {
-        return false;
-    }
-    t.lines == k
-}
-
-// What a tally of all readings says of those with at most 64 lines.
-pub(crate) fn verdict(t: Tally) -> Listing
-    ensures { result ≡ verdict_of t }
-{
-    if t.kind == NONE {
-        return Listing::Refused(Unreadable::WrongLength);
-    }
-    if 64 < t.lines {
-        return Listing::Refused(Unreadable::WrongLength);
-    }
-    if t.kind == ONE {
-        return Listing::Listed;
-    }
-    if t.kind == LEAST {
-        if t.lines < 64 {
-            return Listing::Refused(Unreadable::Ambiguous);
-        }
-        return Listing::Listed;
-    }
-    Listing::Refused(Unreadable::Ambiguous)
 }

@@ -1,6 +1,6 @@
 // What stands at a place of a text: a word, a port, the end of a line.
 ghost use Rattle.std.specs.Prelude.{◌≡◌, ◌+◌, ◌≤◌, length};
-ghost use Rattle.epmd_client_names.specs.Text.{longest, has_at, digit_at, closed_at, port_at, tail_at, NameEnds};
+ghost use Rattle.epmd_client_names.specs.Text.{longest, has_at, space_at, digit_at, closed_at, port_at, tail_at};
 
 // How many bytes stand before a name, `name `, and between it and the port, ` at port `.
 pub(crate) const NAME_WORD: usize = 5;
@@ -9,116 +9,84 @@ const PORT_WORD: usize = 9;
 
 // What follows a name: ` at port `, the port and a newline, with the place behind them.
 #[derive(Clone, Copy)]
-pub enum Tail {
-    Missing,
-    Found { port: u16, next: usize },
+pub struct Tail {
+    pub port: u16,
+    pub next: usize,
 }
 
 // Whether the bytes w stand at a place.
+#[tactic(auto, using(crate::proofs::TextLaws::word_laws), unfolding(crate::specs::Text::has_at, wire::specs::Run::part))]
 pub(crate) fn has(s: &[u8], at: usize, w: &[u8]) -> bool
     requires { at ≤ length s.now }
     ensures { result ≡ has_at s.now at w.now }
 {
-    let n = w.len();
-    if s.len() - at < n {
-        return false;
-    }
-    wire::same_bytes(wire::get_part(s, at, n), w)
+    s[at..].starts_with(w)
 }
 
-// The digit at a place, 10 where there is none.
-fn digit_at(s: &[u8], i: usize) -> u32
-    ensures { (result ≡ digit_at s.now i) × (result ≤ 10) }
+// Whether a space stands at a place: a name may end before it.
+#[tactic(auto, unfolding(crate::specs::Text::space_at))]
+pub(crate) fn space_at(s: &[u8], i: usize) -> bool
+    ensures { result ≡ space_at s.now i }
 {
-    if s.len() <= i {
-        return 10;
+    matches!(s.get(i), Some(b' '))
+}
+
+// The digit at a place.
+#[tactic(auto, unfolding(crate::specs::Text::digit_at))]
+fn digit_at(s: &[u8], i: usize) -> Option<u32>
+    ensures { result ≡ digit_at s.now i }
+{
+    match s.get(i) {
+        Some(b @ b'0'..=b'9') => Some((*b - b'0') as u32),
+        _ => None,
     }
-    let b = s[i];
-    if b < 48 {
-        return 10;
-    }
-    if 57 < b {
-        return 10;
-    }
-    (b - 48) as u32
 }
 
 // A newline behind a port.
-fn closed(s: &[u8], i: usize, v: u32) -> Tail
+#[tactic(auto, unfolding(crate::specs::Text::closed_at))]
+fn closed(s: &[u8], i: usize, v: u32) -> Option<Tail>
     ensures { result ≡ closed_at s.now i v }
 {
-    if 65535 < v {
-        return Tail::Missing;
-    }
-    if s.len() <= i {
-        return Tail::Missing;
-    }
-    if s[i] == 10 {
-        Tail::Found {
-            port: v as u16,
+    match s.get(i) {
+        Some(b'\n') => Some(Tail {
+            port: u16::try_from(v).ok()?,
             next: i + 1,
-        }
-    } else {
-        Tail::Missing
+        }),
+        _ => None,
     }
 }
 
 // A port of up to five digits without a leading zero, and a newline.
-fn port_at(s: &[u8], i: usize) -> Tail
+#[tactic(auto, using(crate::proofs::PortLaws::port_laws))]
+fn port_at(s: &[u8], i: usize) -> Option<Tail>
     requires { (i ≤ length s.now) × (length s.now ≤ longest) }
     ensures { result ≡ port_at s.now i }
 {
-    let mut v = digit_at(s, i);
-    if 9 < v {
-        return Tail::Missing;
-    }
-    let mut k: usize = 4;
-    let mut j = i + 1;
-    while 0 < k {
-        let d = digit_at(s, j);
-        if 9 < d {
+    let mut v = digit_at(s, i)?;
+    for j in i + 1..i + 5 {
+        let Some(d) = digit_at(s, j) else {
             return closed(s, j, v);
-        }
+        };
         if v == 0 {
-            return Tail::Missing;
+            return None;
         }
         if 6553 < v {
-            return Tail::Missing;
+            return None;
         }
         v = v * 10 + d;
-        j += 1;
-        k -= 1;
     }
-    closed(s, j, v)
+    closed(s, i + 5, v)
 }
 
 // What follows a name, at a place.
-pub(crate) fn tail_at(s: &[u8], q: usize) -> Tail
+#[tactic(auto, using(crate::proofs::TextLaws::has_inside), unfolding(crate::specs::Text::tail_at))]
+pub(crate) fn tail_at(s: &[u8], q: usize) -> Option<Tail>
     requires { (q ≤ length s.now) × (length s.now ≤ longest) }
     ensures { result ≡ tail_at s.now q }
 {
     if has(s, q, b" at port ") {
         port_at(s, q + PORT_WORD)
     } else {
-        Tail::Missing
+        None
     }
-}
-
-// The first length from n on at which a name from a place may end, since a space follows it, or 256.
-pub(crate) fn name_end(s: &[u8], from: usize, n: usize) -> usize
-    requires { (from ≤ longest + 5) × (n ≤ 256) }
-    ensures { NameEnds s.now from n result }
-{
-    let mut k = n;
-    while k < 256 {
-        let q = from + k;
-        if s.len() <= q {
-            return 256;
-        }
-        if s[q] == 32 {
-            return k;
-        }
-        k += 1;
-    }
-    k
 }

@@ -6,6 +6,7 @@ use mathlib.Core.List.{List, [], ◌∷◌}
 use native.Mathlib.Omega.{arith}
 use borrow.Author.Tests.{leb-true}
 use lib.ListN.{length, get_or, drop}
+use Rattle.std.specs.Prelude.{Ok}
 use Rattle.wire.specs.Run.{part}
 use Rattle.wire.specs.Frame.{framed, body}
 use Rattle.wire.specs.Number.{be_at}
@@ -15,7 +16,6 @@ use Rattle.wire.proofs.LayoutLaws.{extent_back, int_back, run_back}
 use Rattle.names.specs.Held.{name_of}
 use Rattle.names.specs.Node.{node_name}
 use Rattle.names.proofs.NodeLaws.{name_short}
-use Rattle.epmd_rules.specs.declared.answer.Answer.TheVariants.{Written}
 use Rattle.epmd_rules.specs.declared.request.Request.TheVariants.{Alive2, Names}
 use Rattle.epmd_rules.specs.Messages.{alive2_req}
 use Rattle.epmd_rules.specs.Registration.{extra_of}
@@ -57,7 +57,7 @@ module _ (port kind protocol highest lowest : ℕ) (name extra : List ℕ) where
     run_at_lem : (k : ℕ) → run_at alive2_req k bytes ≡ run_of (get_or values k (int 0))
     run_at_lem = run_back alive2_req values fits
 
-    asked : examine_body bytes ≡ Alive2
+    asked : examine_body bytes ≡ Ok Alive2
     asked =
         alive2_asked bytes (int_at_lem 0) whole
         (omega (arith, extra_length bytes (int_at_lem 0) whole, ap length (run_at_lem 7)))
@@ -88,7 +88,7 @@ module _ (port kind protocol highest lowest : ℕ) (name extra : List ℕ) where
         }
 
   alive2_accepted : (given count : ℕ) → Fit port kind protocol highest lowest
-      → (alive2_writing port kind protocol highest lowest name extra given).answer ≡ Written count
+      → (alive2_writing port kind protocol highest lowest name extra given).answer ≡ Ok count
       → Alive2Taken (alive2_writing port kind protocol highest lowest name extra given).bytes port kind protocol highest lowest name extra
   unfolding alive2_writing
   alive2_accepted given count f e =
@@ -106,19 +106,19 @@ module _ (name : List ℕ) where
       let o = frame_of (122 ∷ name) (omega arith) (omega (arith, name_short name n)) in
       record { asked = λ given h. framed_body (framed (122 ∷ name)) given h o.0 ∙ ap examine_body o.1 ∙ port2_asked (122 ∷ name) refl n; sought = ap (drop 1) o.1 }
 
-  question_accepted : (given count : ℕ) → (port_please2_writing name given).answer ≡ Written count → PortPlease2Taken (port_please2_writing name given).bytes name
+  question_accepted : (given count : ℕ) → (port_please2_writing name given).answer ≡ Ok count → PortPlease2Taken (port_please2_writing name given).bytes name
   unfolding port_please2_writing
   question_accepted given count e =
       let w = wrote (port_please2_rules name) (port_please2_frame name) given count e in
       subst (λ (x : List ℕ). PortPlease2Taken x name) (sym w.1) (question_taken w.0.0)
 
-names_taken : (given : ℕ) → room ≤ given → examine_of names_frame given ≡ Names
+names_taken : (given : ℕ) → room ≤ given → examine_of names_frame given ≡ Ok Names
 unfolding names_frame be_at part
 names_taken given h =
     let o = frame_of (110 ∷ []) (omega arith) (omega arith) in
     framed_body (framed (110 ∷ [])) given h o.0 ∙ ap examine_body o.1 ∙ names_asked (110 ∷ []) refl refl
 
-names_accepted : (given count : ℕ) → (names_writing given).answer ≡ Written count → (given' : ℕ) → room ≤ given' → examine_of (names_writing given).bytes given' ≡ Names
+names_accepted : (given count : ℕ) → (names_writing given).answer ≡ Ok count → (given' : ℕ) → room ≤ given' → examine_of (names_writing given).bytes given' ≡ Ok Names
 unfolding names_writing
 names_accepted given count e given' h = ap (λ (x : List ℕ). examine_of x given') (wrote [] names_frame given count e).1 ∙ names_taken given' h
 

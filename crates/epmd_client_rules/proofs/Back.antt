@@ -6,6 +6,7 @@ use mathlib.Core.List.{List, [], ◌∷◌}
 use native.Mathlib.Omega.{arith}
 use borrow.Author.Tests.{eq-eqb, ne_eqb, eqb-true, eqb-false}
 use lib.ListN.{length}
+use Rattle.std.specs.Prelude.{Ok, Err}
 use lib.Dec.{eqb, leb}
 use Rattle.wire.specs.Run.{part}
 use Rattle.wire.specs.Number.{be_at}
@@ -28,14 +29,14 @@ use Rattle.epmd_client_rules.proofs.ReplyLaws.{found_told, name_length, extra_le
 -- ---- 118 and 121
 
 module _ (result c : ℕ) (r8 : result < 256) where
-  long_read : c < 4294967296 → alive2_read (encode alive2_xresp (int 118 ∷ int result ∷ int c ∷ [])) ≡ told_of 118 result c
+  long_read : c < 4294967296 → alive2_read (encode alive2_xresp (int 118 ∷ int result ∷ int c ∷ [])) ≡ Ok (told_of 118 result c)
   unfolding alive2_read
   long_read h =
       let vs : List Value = int 118 ∷ int result ∷ int c ∷ [] in
       let f : Fits alive2_xresp vs = (omega arith, (omega arith, (omega arith, tt))) in
       rw (int_back alive2_xresp vs f 0, int_back alive2_xresp vs f 1, int_back alive2_xresp vs f 2)
 
-  short_read : c < 65536 → alive2_read (encode alive2_resp (int 121 ∷ int result ∷ int c ∷ [])) ≡ told_of 121 result c
+  short_read : c < 65536 → alive2_read (encode alive2_resp (int 121 ∷ int result ∷ int c ∷ [])) ≡ Ok (told_of 121 result c)
   unfolding alive2_read
   short_read h =
       let vs : List Value = int 121 ∷ int result ∷ int c ∷ [] in
@@ -62,22 +63,22 @@ field_fits result c n h = by (eqb result 0) where
   by true = h
   by false = omega arith
 
-pub alive2_back : (highest result c : ℕ) → result < 256 → c < 4294967296 → alive2_read (alive2_reply highest result c) ≡ alive2_told highest result c
+pub alive2_back : (highest result c : ℕ) → result < 256 → c < 4294967296 → alive2_read (alive2_reply highest result c) ≡ Ok (alive2_told highest result c)
 unfolding alive2_reply
 alive2_back highest result c r8 h = by (leb 6 highest) where
   by : (t : Bool)
       → alive2_read (cond t (encode alive2_xresp (int 118 ∷ int result ∷ int (creation_field result c) ∷ [])) (encode alive2_resp (int 121 ∷ int result ∷ int (creation_field result (short_creation c)) ∷ [])))
-      ≡ cond t (told_of 118 result c) (told_of 121 result (short_creation c))
-  by true = long_read result (creation_field result c) r8 (field_fits result c 4294967296 h) ∙ told_field 118 result c
-  by false = short_read result (creation_field result (short_creation c)) r8 (field_fits result (short_creation c) 65536 (omega arith)) ∙ told_field 121 result (short_creation c)
+      ≡ Ok (cond t (told_of 118 result c) (told_of 121 result (short_creation c)))
+  by true = long_read result (creation_field result c) r8 (field_fits result c 4294967296 h) ∙ ap Ok (told_field 118 result c)
+  by false = short_read result (creation_field result (short_creation c)) r8 (field_fits result (short_creation c) 65536 (omega arith)) ∙ ap Ok (told_field 121 result (short_creation c))
 
 -- ---- 119
 
-found_whole : (b : List ℕ) (p : Port2) → port2_read b ≡ port2.Found p → (length b ≡ extent port2_resp b) × (p ≡ fields_in b)
+found_whole : (b : List ℕ) (p : Port2) → port2_read b ≡ Ok (port2.Found p) → (length b ≡ extent port2_resp b) × (p ≡ fields_in b)
 unfolding port2_read
 found_whole b p e = by (leb 1 (length b)) (eqb (tag b) 119) (eqb (result_in b) 0) refl (port2_long b) refl e where
   by : (some tagged zero : Bool) → eqb (result_in b) 0 ≡ zero → (long : Bool) → port2_long b ≡ long
-      → first_refusal port2.Refused ((some else WrongLength) ∷ (tagged else WrongTag) ∷ (long else WrongLength) ∷ []) (cond zero (port2.Found (fields_in b)) (port2.Failed (result_in b))) ≡ port2.Found p
+      → first_refusal Err ((some else WrongLength) ∷ (tagged else WrongTag) ∷ (long else WrongLength) ∷ []) (Ok (cond zero (port2.Found (fields_in b)) (port2.Failed (result_in b)))) ≡ Ok (port2.Found p)
       → (length b ≡ extent port2_resp b) × (p ≡ fields_in b)
   by false tagged zero f long g h = let z : ◌≡◌ {A = ℕ} 0 1 = cc in absurd (omega arith)
   by true false zero f long g h = let z : ◌≡◌ {A = ℕ} 0 1 = cc in absurd (omega arith)
@@ -96,7 +97,7 @@ parts_lie b p e =
       ap (λ (q : Port2). part q.extra.at q.extra.len b) w.1 ∙ ap₂ (λ (n m : ℕ). part (12 + n + 2) m b) name extra,
     )
 
-pub missing_read : port2_read port2_missing ≡ port2.Failed 1
+pub missing_read : port2_read port2_missing ≡ Ok (port2.Failed 1)
 unfolding port2_read be_at part
 missing_read = refl
 
@@ -115,7 +116,7 @@ module _ (port kind protocol highest lowest : ℕ) (name extra : List ℕ) where
     extra_back = run_back port2_resp values f 8
 
     pub found_read : port2_read bytes
-        ≡ port2.Found (record {
+        ≡ Ok (port2.Found (record {
           port = port;
           kind = kind;
           protocol = protocol;
@@ -123,7 +124,7 @@ module _ (port kind protocol highest lowest : ℕ) (name extra : List ℕ) where
           lowest = lowest;
           name = record { at = 12; len = length name };
           extra = record { at = 14 + length name; len = length extra };
-        })
+        }))
     unfolding port2_read
     found_read =
         let is = int_back port2_resp values f in
@@ -131,7 +132,7 @@ module _ (port kind protocol highest lowest : ℕ) (name extra : List ℕ) where
         let x = extra_back in
         let at : 12 + length name + 2 ≡ 14 + length name = omega arith in
         found_told bytes (omega (arith, extent_back port2_resp values f)) (is 0) (is 1) (sym (extent_back port2_resp values f))
-        ∙ ap port2.Found (λ i.
+        ∙ ap (λ (p : Port2). Ok (port2.Found p)) (λ i.
         record {
           port = is 2 i;
           kind = is 3 i;

@@ -7,6 +7,7 @@ use mathlib.Core.List.{List, [], ◌∷◌, ◌++◌}
 use native.Mathlib.Omega.{arith}
 use borrow.Author.Tests.{leb-true, ne_eqb, lt-ltb, ltb-true, ltb-false, eqb-true, eqb-false}
 use lib.ListN.{length, get_or}
+use Rattle.std.specs.Prelude.{Result, Ok, Err}
 use lib.Dec.{eqb, ltb}
 use Rattle.wire.specs.Frame.{body}
 use Rattle.wire.specs.Number.{be}
@@ -15,7 +16,6 @@ use Rattle.wire.specs.Layout.{behind, int_at, run_at}
 use Rattle.names.specs.Held.{name_bytes}
 use Rattle.names.proofs.HeldLaws.{name_back}
 use Rattle.names.proofs.NodeLaws.{name_short}
-use Rattle.epmd_rules.specs.declared.answer.Answer.TheVariants.{Written}
 use Rattle.epmd_rules.specs.Requests.{alive2_rules}
 use Rattle.epmd_rules.specs.declared.registration.Registration.{Registration}
 use Rattle.epmd_rules.specs.declared.request.Request.TheVariants.{Alive2, PortPlease2, Names}
@@ -29,11 +29,12 @@ use Rattle.epmd_rules.specs.Claims.{Reachable, NumbersHeld, PlaceSound}
 use Rattle.epmd_rules.proofs.ServeLaws.{call_asked, alive2_fails, alive2_fills, result_fits}
 use Rattle.epmd_rules.proofs.Found.{asked_found}
 use Rattle.epmd_rules.proofs.Reachable.{always_sound, registered_found, extra_back}
+use Rattle.epmd_client_rules.specs.declared.unreadable.Unreadable.{Unreadable}
 use Rattle.epmd_client_rules.specs.declared.unreadable.Unreadable.TheVariants.{Ambiguous}
 use Rattle.epmd_client_rules.specs.declared.reply.Port2Reply.TheVariants as port2
 use Rattle.epmd_client_rules.specs.Replies.{alive2_read}
 use Rattle.epmd_client_rules.specs.declared.reply.NamesReply.{NamesReply}
-use Rattle.epmd_client_rules.specs.Readings.{lines_text, Allowed, Reading, Reads, listed, not_listed, Tells, none, several, only}
+use Rattle.epmd_client_rules.specs.Readings.{lines_text, Allowed, Reading, Reads, listed, Tells, none, several, only}
 use Rattle.epmd_client_rules.specs.Claims.{registration_with, alive2_told, port2_told, Port2Back, lines_in, reading_of, ReplyRead, AskedAndRead, RegisteredAndRead}
 use Rattle.epmd_client_rules.specs.Requests.{alive2_frame, alive2_writing, port_please2_writing}
 use Rattle.epmd_client_rules.proofs.WritingLaws.{wrote}
@@ -78,7 +79,7 @@ registry_reads r reach =
       few = omega (arith, lines_few r.registrations, s.places);
     }
 
-names_back : (b : List ℕ) (m : Reading) (told : NamesReply) → Reads b m → Tells b told → (told ≡ listed m) ⊎ (told ≡ not_listed Ambiguous)
+names_back : (b : List ℕ) (m : Reading) (told : Result NamesReply Unreadable) → Reads b m → Tells b told → (told ≡ listed m) ⊎ (told ≡ Err Ambiguous)
 names_back b m told w (none u) = absurd (u m w)
 names_back b m told w (several k n p q d) = inr refl
 names_back b m told w (only k p o) = inl (ap listed (sym (o m w)))
@@ -89,22 +90,22 @@ told_apart : (highest result c d : ℕ) → (result ≡ 0 → ⊥) → alive2_to
 told_apart highest result c d h = rw (ne_eqb result 0 h)
 
 alive2_told_lem : (r : Registry) (c : ℕ) (b : List ℕ) → r.next ≤ 4294967295
-    → alive2_read (alive2_of r c b).bytes ≡ alive2_told (int_at alive2_req 4 b) (result_of r c (run_at alive2_req 6 b)) r.next
+    → alive2_read (alive2_of r c b).bytes ≡ Ok (alive2_told (int_at alive2_req 4 b) (result_of r c (run_at alive2_req 6 b)) r.next)
 alive2_told_lem r c b n = by (eqb (result_of r c (run_at alive2_req 6 b)) 0) refl where
   by : (t : Bool) → eqb (result_of r c (run_at alive2_req 6 b)) 0 ≡ t
-      → alive2_read (alive2_of r c b).bytes ≡ alive2_told (int_at alive2_req 4 b) (result_of r c (run_at alive2_req 6 b)) r.next
+      → alive2_read (alive2_of r c b).bytes ≡ Ok (alive2_told (int_at alive2_req 4 b) (result_of r c (run_at alive2_req 6 b)) r.next)
   by true z =
       let k = result_of r c (run_at alive2_req 6 b) in
       let q = eqb-true k 0 z in
       ap (λ (o : Outcome). alive2_read o.bytes) (alive2_fills r c b k refl q)
       ∙ alive2_back (int_at alive2_req 4 b) 0 r.next (omega arith) (omega arith)
-      ∙ ap (λ (x : ℕ). alive2_told (int_at alive2_req 4 b) x r.next) (sym q)
+      ∙ ap (λ (x : ℕ). Ok (alive2_told (int_at alive2_req 4 b) x r.next)) (sym q)
   by false z =
       let k = result_of r c (run_at alive2_req 6 b) in
       let q = eqb-false k 0 z in
       ap (λ (o : Outcome). alive2_read o.bytes) (alive2_fails r c b k refl q)
       ∙ alive2_back (int_at alive2_req 4 b) k 0 (result_fits r c (run_at alive2_req 6 b)) (omega arith)
-      ∙ told_apart (int_at alive2_req 4 b) k 0 r.next q
+      ∙ ap Ok (told_apart (int_at alive2_req 4 b) k 0 r.next q)
 
 port2_told_lem : (r : Registry) (name : List ℕ) → Reachable r → Port2Back (port2_reply r name) (by_name r name) (entry_at r (by_name r name))
 unfolding port2_reply
@@ -115,22 +116,22 @@ port2_told_lem r name reach = by (ltb (by_name r name) 64) refl where
       let l = ltb-true (by_name r name) 64 e in
       let s = (always_sound r reach).each (by_name r name) l in
       let q = registered_back (entry_at r (by_name r name)) s.numbers_held s.name_held s.extra_held in
-      record { told = q.told ∙ ap (λ (t : Bool). cond t (port2.Found (port2_told (entry_at r (by_name r name)))) (port2.Failed 1)) (sym e); name = λ h. q.name (omega arith); extra = λ h. q.extra (omega arith) }
+      record { told = q.told ∙ ap (λ (t : Bool). Ok (cond t (port2.Found (port2_told (entry_at r (by_name r name)))) (port2.Failed 1))) (sym e); name = λ h. q.name (omega arith); extra = λ h. q.extra (omega arith) }
   by false e =
       let g = ltb-false (by_name r name) 64 e in
-      record { told = missing_read ∙ ap (λ (t : Bool). cond t (port2.Found (port2_told (entry_at r (by_name r name)))) (port2.Failed 1)) (sym e); name = λ h. absurd (omega arith); extra = λ h. absurd (omega arith) }
+      record { told = missing_read ∙ ap (λ (t : Bool). Ok (cond t (port2.Found (port2_told (entry_at r (by_name r name)))) (port2.Failed 1))) (sym e); name = λ h. absurd (omega arith); extra = λ h. absurd (omega arith) }
 
 pub reply_read : ReplyRead
 unfolding port2_of names_of
 reply_read =
     record {
       alive2 = λ r c frame given reach e.
-          ap (λ (o : Outcome). alive2_read o.bytes) (call_asked r c frame given Alive2 e) ∙ alive2_told_lem r c (body frame) (always_sound r reach).next_held;
+          ap (λ (o : Outcome). alive2_read o.bytes) (call_asked r c frame given (Ok Alive2) e) ∙ alive2_told_lem r c (body frame) (always_sound r reach).next_held;
       port2 = λ r c frame given reach e.
           let name = behind port_please2_req (body frame) in
-          subst (λ (o : Outcome). Port2Back o.bytes (by_name r name) (entry_at r (by_name r name))) (sym (call_asked r c frame given PortPlease2 e)) (port2_told_lem r name reach);
+          subst (λ (o : Outcome). Port2Back o.bytes (by_name r name) (entry_at r (by_name r name))) (sym (call_asked r c frame given (Ok PortPlease2) e)) (port2_told_lem r name reach);
       names = λ r c frame given told reach e t.
-          names_back (names_reply r) (reading_of r) told (registry_reads r reach) (subst (λ (o : Outcome). Tells o.bytes told) (call_asked r c frame given Names e) t);
+          names_back (names_reply r) (reading_of r) told (registry_reads r reach) (subst (λ (o : Outcome). Tells o.bytes told) (call_asked r c frame given (Ok Names) e) t);
     }
 
 pub asked_and_read : AskedAndRead
@@ -142,15 +143,15 @@ asked_and_read r c i given given' count reach h t room' e =
     let s = (always_sound r reach).each i h in
     let back = registered_back (entry_at r i) s.numbers_held s.name_held s.extra_held in
     let is : (request_of r c frame given').bytes ≡ port2_found (entry_at r i) =
-    ap (λ (o : Outcome). o.bytes) (call_asked r c frame given' PortPlease2 (q.asked given' room'))
+    ap (λ (o : Outcome). o.bytes) (call_asked r c frame given' (Ok PortPlease2) (q.asked given' room'))
     ∙ ap (port2_reply r) q.sought
     ∙ asked_found r i reach h t in
     subst (λ (x : List ℕ). Port2Back x i (entry_at r i)) (sym is)
-    (record { told = back.told ∙ ap (λ (u : Bool). cond u (port2.Found (port2_told (entry_at r i))) (port2.Failed 1)) (sym (lt-ltb i 64 h)); name = λ l. back.name (omega arith); extra = λ l. back.extra (omega arith) })
+    (record { told = back.told ∙ ap (λ (u : Bool). Ok (cond u (port2.Found (port2_told (entry_at r i))) (port2.Failed 1))) (sym (lt-ltb i 64 h)); name = λ l. back.name (omega arith); extra = λ l. back.extra (omega arith) })
 
 -- the fields that a writer wrote can be held
 written_held : (port kind protocol highest lowest : ℕ) (name extra : List ℕ) (given count : ℕ)
-    → (alive2_writing port kind protocol highest lowest name extra given).answer ≡ Written count → (length name ≤ 255) × (length extra ≤ 128)
+    → (alive2_writing port kind protocol highest lowest name extra given).answer ≡ Ok count → (length name ≤ 255) × (length extra ≤ 128)
 unfolding alive2_writing
 written_held port kind protocol highest lowest name extra given count e =
     let h = (wrote (alive2_rules highest lowest name extra) (alive2_frame port kind protocol highest lowest name extra) given count e).0 in
@@ -169,13 +170,13 @@ registered_and_read r c asker port kind protocol highest lowest name extra given
     let z' : result_of r c (run_at alive2_req 6 (body frame)) ≡ 0 = ap (result_of r c) t.named ∙ z in
     let r' : Registry = (request_of r c frame reply).registry in
     let is : (request_of r' asker question reply').bytes ≡ port2_found p =
-    ap (λ (o : Outcome). o.bytes) (call_asked r' asker question reply' PortPlease2 (q.asked reply' room₂))
+    ap (λ (o : Outcome). o.bytes) (call_asked r' asker question reply' (Ok PortPlease2) (q.asked reply' room₂))
     ∙ ap (port2_reply r') (q.sought ∙ sym t.named)
     ∙ registered_found r c frame reply reach (t.asked reply room₁) z'
     ∙ ap port2_found (t.fields c r.next) in
     record {
       told_creation =
           reply_read.alive2 r c frame reply reach (t.asked reply room₁)
-          ∙ ap₂ (λ (h k : ℕ). alive2_told h k r.next) t.speaks z';
+          ∙ ap₂ (λ (h k : ℕ). Ok (alive2_told h k r.next)) t.speaks z';
       found_back = subst (λ (x : List ℕ). Port2Back x 0 p) (sym is) (registered_back p numbers (omega (arith, ap length (name_back name), h.0)) (omega (arith, ap length (extra_back extra), h.1)));
     }

@@ -5,12 +5,14 @@ use mathlib.Core.Path.{◌≡◌, refl, sym, ap, ap₂, ◌∙◌}
 use mathlib.Core.List.{List, [], ◌∷◌, ◌++◌, map, append_assoc}
 use native.Mathlib.Omega.{arith}
 use lib.ListN.{length, length-append}
+use Rattle.std.specs.Prelude.{Result}
 use Rattle.wire.specs.Run.{part}
 use Rattle.wire.specs.Number.{be}
 use Rattle.wire.specs.Decimal.{decimal}
 use Rattle.wire.specs.Table.{table_bytes}
 use Rattle.wire.proofs.RunLaws.{part_behind}
 use Rattle.epmd_rules.specs.Replies.{name_word, port_word, line_with}
+use Rattle.epmd_client_rules.specs.declared.unreadable.Unreadable.{Unreadable}
 use Rattle.epmd_client_rules.specs.declared.reply.NamesReply.{NamesReply}
 use Rattle.epmd_client_rules.specs.Readings.{Line, line_text, lines_text, lines_at, listed, Tells, none, several, only}
 use Rattle.epmd_client_rules.specs.Answers.{listing_number}
@@ -27,7 +29,7 @@ module _ (b : List ℕ) where
   one_two : OneReading b → TwoReadings b → ⊥
   one_two o t = t.4 (o.2 t.0 t.2 ∙ sym (o.2 t.1 t.3))
 
-  once : {r s : NamesReply} → Tells b r → Tells b s → r ≡ s
+  once : {r s : Result NamesReply Unreadable} → Tells b r → Tells b s → r ≡ s
   once (none u) (none v) = refl
   once (none u) (several m n rm rn d) = absurd (none_two u (m, n, rm, rn, d))
   once (none u) (only m rm v) = absurd (none_one u (m, rm, v))
@@ -38,7 +40,7 @@ module _ (b : List ℕ) where
   once (only m rm u) (several k n rk rn d) = absurd (one_two (m, rm, u) (k, n, rk, rn, d))
   once (only m rm u) (only n rn v) = ap listed (v m rm)
 
-  read_as : {r : NamesReply} → Tells b r → ReadAs b (listing_number r.listing)
+  read_as : {r : Result NamesReply Unreadable} → Tells b r → ReadAs b (listing_number r)
   read_as (none u) =
       record {
         none = ((λ e. u), λ v. refl);

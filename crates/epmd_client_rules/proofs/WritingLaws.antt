@@ -7,6 +7,7 @@ use native.Mathlib.Omega.{arith}
 use borrow.Author.Tests.{leb-true}
 use lib.ListN.{length, take, length-append}
 use lib.Dec.{leb}
+use Rattle.std.specs.Prelude.{Result, Ok, Err}
 use Rattle.wire.specs.Number.{be}
 use Rattle.wire.specs.Frame.{framed}
 use Rattle.wire.specs.Layout.{counted, int, run, encode_field, encode}
@@ -15,8 +16,6 @@ use Rattle.wire.proofs.FrameLaws.{framed_split}
 use Rattle.wire.proofs.OutputLaws.{written_none}
 use Rattle.epmd_rules.specs.declared.refusal.Refusal.{Refusal}
 use Rattle.epmd_rules.specs.declared.refusal.Refusal.TheVariants.{OutputTooShort}
-use Rattle.epmd_rules.specs.declared.answer.Answer.{Answer}
-use Rattle.epmd_rules.specs.declared.answer.Answer.TheVariants.{Written, Refused}
 use Rattle.epmd_rules.specs.Messages.{alive2_req, port_please2_req, names_req}
 use Rattle.epmd_rules.specs.Requests.{Check, ◌else◌, first_refusal, alive2_rules, port_please2_rules}
 use Rattle.names.proofs.NodeLaws.{name_short}
@@ -26,56 +25,56 @@ use Rattle.epmd_client_rules.specs.Decision.{decided}
 -- ---- decisions
 
 -- what is done by an answer: the frame is written, or nothing
-abbrev doing : List ℕ → Answer → Writing
-doing frame (Written n) = record { answer = Written n; bytes = frame }
-doing frame (Refused why) = record { answer = Refused why; bytes = [] }
+abbrev doing : List ℕ → Result ℕ Refusal → Writing
+doing frame (Ok n) = record { answer = Ok n; bytes = frame }
+doing frame (Err why) = record { answer = Err why; bytes = [] }
 
 by_answer : (cs : List (Check Refusal)) (n : ℕ) (frame : List ℕ)
-    → first_refusal refused cs (record { answer = Written n; bytes = frame }) ≡ doing frame (first_refusal Refused cs (Written n))
+    → first_refusal refused cs (record { answer = Ok n; bytes = frame }) ≡ doing frame (first_refusal Err cs (Ok n))
 by_answer [] n frame = refl
 by_answer ((true else why) ∷ cs) n frame = by_answer cs n frame
 by_answer ((false else why) ∷ cs) n frame = refl
 
-own : (frame : List ℕ) (a : Answer) → a ≡ (doing frame a).answer
-own frame (Written n) = refl
-own frame (Refused why) = refl
+own : (frame : List ℕ) (a : Result ℕ Refusal) → a ≡ (doing frame a).answer
+own frame (Ok n) = refl
+own frame (Err why) = refl
 
 -- a decision by the frame's size is the writer's answer
-module _ (rules : List (Check Refusal)) (frame : List ℕ) (size given : ℕ) (e : length frame ≡ size) (a : Answer) (d : a ≡ decided rules size given) where
-  writes : (out out' : List ℕ) → out' ≡ written (doing frame a).bytes out → Writes (writing rules frame given) a out out'
-  writes out out' o =
+module _ (rules : List (Check Refusal)) (frame : List ℕ) (size given : ℕ) (e : length frame ≡ size) where
+  writes : (a : Result ℕ Refusal) → a ≡ decided rules size given → (out out' : List ℕ) → out' ≡ written (doing frame a).bytes out → Writes (writing rules frame given) a out out'
+  writes a d out out' o =
       let w : writing rules frame given ≡ doing frame a =
       by_answer (rules ++ ((leb (length frame) given else OutputTooShort) ∷ [])) (length frame) frame
       ∙ ap (λ (k : ℕ). doing frame (decided rules k given)) e
       ∙ ap (doing frame) (sym d) in
       rw w (record { answer = own frame a; output = o })
 
-  pub writes_none : (why : Refusal) (out : List ℕ) → a ≡ Refused why → Writes (writing rules frame given) a out out
-  writes_none why out r = writes out out (rw r (sym (written_none out)))
+  pub writes_none : (why : Refusal) → Err why ≡ decided rules size given → (out : List ℕ) → Writes (writing rules frame given) (Err why) out out
+  writes_none why d out = writes (Err why) d out out (sym (written_none out))
 
-  pub writes_frame : (n : ℕ) (out out' : List ℕ) → a ≡ Written n → out' ≡ written frame out → Writes (writing rules frame given) a out out'
-  writes_frame n out out' r o = writes out out' (rw r o)
+  pub writes_frame : (n : ℕ) → Ok n ≡ decided rules size given → (out out' : List ℕ) → out' ≡ written frame out → Writes (writing rules frame given) (Ok n) out out'
+  writes_frame n d out out' o = writes (Ok n) d out out' o
 
 -- where a frame is written, every test held
 abbrev AllHold : List (Check Refusal) → Type 0
 AllHold [] = Unit
 AllHold ((holds else why) ∷ cs) = (holds ≡ true) × AllHold cs
 
-all_hold : (cs : List (Check Refusal)) (n m : ℕ) → first_refusal Refused cs (Written n) ≡ Written m → AllHold cs
+all_hold : (cs : List (Check Refusal)) (n m : ℕ) → first_refusal Err cs (Ok n) ≡ Ok m → AllHold cs
 all_hold [] n m e = tt
 all_hold ((true else why) ∷ cs) n m e = (refl, all_hold cs n m e)
 all_hold ((false else why) ∷ cs) n m e = let z : ◌≡◌ {A = ℕ} 0 1 = cc in absurd (omega arith)
 
-held : (rules : List (Check Refusal)) (size given m : ℕ) → decided rules size given ≡ Written m → AllHold (rules ++ ((leb size given else OutputTooShort) ∷ []))
+held : (rules : List (Check Refusal)) (size given m : ℕ) → decided rules size given ≡ Ok m → AllHold (rules ++ ((leb size given else OutputTooShort) ∷ []))
 held rules size given m e = all_hold (rules ++ ((leb size given else OutputTooShort) ∷ [])) size m e
 
 -- by the writer's own answer: what it wrote is its frame, and every rule held
-pub wrote : (rules : List (Check Refusal)) (frame : List ℕ) (given m : ℕ) → (writing rules frame given).answer ≡ Written m
+pub wrote : (rules : List (Check Refusal)) (frame : List ℕ) (given m : ℕ) → (writing rules frame given).answer ≡ Ok m
     → AllHold (rules ++ ((leb (length frame) given else OutputTooShort) ∷ [])) × ((writing rules frame given).bytes ≡ frame)
 wrote rules frame given m e =
     let w = by_answer (rules ++ ((leb (length frame) given else OutputTooShort) ∷ [])) (length frame) frame in
-    let d : decided rules (length frame) given ≡ Written m = own frame (decided rules (length frame) given) ∙ ap (λ (x : Writing). x.answer) (sym w) ∙ e in
-    (held rules (length frame) given m d, ap (λ (x : Writing). x.bytes) w ∙ ap (λ (a : Answer). (doing frame a).bytes) d)
+    let d : decided rules (length frame) given ≡ Ok m = own frame (decided rules (length frame) given) ∙ ap (λ (x : Writing). x.answer) (sym w) ∙ e in
+    (held rules (length frame) given m d, ap (λ (x : Writing). x.bytes) w ∙ ap (λ (a : Result ℕ Refusal). (doing frame a).bytes) d)
 
 -- ---- ALIVE2_REQ: the head, the name behind Nlen, the extra bytes behind Elen
 
@@ -83,7 +82,7 @@ module _ (highest lowest : ℕ) (name extra : List ℕ) where
   abbrev pub alive2_size : ℕ
   alive2_size = 15 + length name + length extra
 
-  pub alive2_held : (given m : ℕ) → decided (alive2_rules highest lowest name extra) alive2_size given ≡ Written m
+  pub alive2_held : (given m : ℕ) → decided (alive2_rules highest lowest name extra) alive2_size given ≡ Ok m
       → (alive2_size ≤ given) × (length name ≤ 255) × (length extra ≤ 128)
   alive2_held given m e =
       let h = held (alive2_rules highest lowest name extra) alive2_size given m e in
@@ -115,7 +114,7 @@ module _ (port kind protocol highest lowest : ℕ) (name extra : List ℕ) where
 
 -- ---- PORT_PLEASE2_REQ and NAMES_REQ: a length and a tag, and the name
 
-pub port_please2_held : (name : List ℕ) (given m : ℕ) → decided (port_please2_rules name) (3 + length name) given ≡ Written m
+pub port_please2_held : (name : List ℕ) (given m : ℕ) → decided (port_please2_rules name) (3 + length name) given ≡ Ok m
     → (3 + length name ≤ given) × (length name ≤ 255)
 port_please2_held name given m e =
     let h = held (port_please2_rules name) (3 + length name) given m e in
@@ -128,7 +127,7 @@ port_please2_split name = framed_split (encode port_please2_req (int 122 ∷ [])
 pub port_please2_size : (name : List ℕ) → length (port_please2_frame name) ≡ 3 + length name
 port_please2_size name = ap length (sym (port_please2_split name)) ∙ omega arith
 
-pub names_held : (given m : ℕ) → decided [] 3 given ≡ Written m → 3 ≤ given
+pub names_held : (given m : ℕ) → decided [] 3 given ≡ Ok m → 3 ≤ given
 names_held given m e = leb-true 3 given (held [] 3 given m e).0
 
 pub names_head : be 2 1 ++ encode names_req (int 110 ∷ []) ≡ names_frame

@@ -1,12 +1,11 @@
 -- What is proved of a node's side beside its contracts. Each claim names the theorem in proofs/ that is its proof.
-use Rattle.std.specs.Prelude.{ℕ, ◌+◌, ◌≤◌, ◌<◌, ◌≡◌, ◌⊎◌, Bool, false, cond, ◌&&◌, ◌||◌, not, List, [], ◌∷◌, length, eqb, leb, ltb}
+use Rattle.std.specs.Prelude.{ℕ, ◌+◌, ◌≤◌, ◌<◌, ◌≡◌, ◌⊎◌, Bool, false, cond, ◌&&◌, ◌||◌, not, List, [], ◌∷◌, length, eqb, leb, ltb, Result, Ok, Err}
 use Rattle.wire.specs.Run.{part}
 use Rattle.wire.specs.Frame.{body}
 use Rattle.wire.specs.Layout.{behind, int_at, run_at}
 use Rattle.wire.specs.Number.{be_at}
 use Rattle.names.specs.Held.{name_of, name_bytes}
 use Rattle.names.specs.Node.{node_name}
-use Rattle.epmd_rules.specs.declared.answer.Answer.TheVariants.{Written}
 use Rattle.epmd_rules.specs.declared.registration.Registration.{Registration}
 use Rattle.epmd_rules.specs.declared.request.Request.TheVariants.{Alive2, PortPlease2, Names}
 use Rattle.epmd_rules.specs.State.{Registry}
@@ -18,6 +17,7 @@ use Rattle.epmd_rules.specs.Replies.{short_creation}
 use Rattle.epmd_rules.specs.Serve.{result_of, registration_of, request_of}
 use Rattle.epmd_rules.specs.Answers.{numbers_of}
 use Rattle.epmd_rules.specs.Claims.{Reachable}
+use Rattle.epmd_client_rules.specs.declared.unreadable.Unreadable.{Unreadable}
 use Rattle.epmd_client_rules.specs.declared.unreadable.Unreadable.TheVariants.{Ambiguous}
 use Rattle.epmd_client_rules.specs.declared.reply.Alive2Reply.{Alive2Reply}
 use Rattle.epmd_client_rules.specs.declared.reply.Alive2Reply.TheVariants as alive2
@@ -26,7 +26,7 @@ use Rattle.epmd_client_rules.specs.declared.reply.Port2Reply.TheVariants as port
 use Rattle.epmd_client_rules.specs.declared.reply.NamesReply.{NamesReply}
 use Rattle.epmd_client_rules.specs.Requests.{Writing, alive2_writing, port_please2_writing, names_writing}
 use Rattle.epmd_client_rules.specs.Replies.{result_in, name_in, extra_in, alive2_read, port2_read}
-use Rattle.epmd_client_rules.specs.Readings.{Line, Reading, listed, not_listed, Tells}
+use Rattle.epmd_client_rules.specs.Readings.{Line, Reading, listed, Tells}
 use Rattle.epmd_client_rules.specs.Answers.{alive2_numbers, port2_numbers}
 use Rattle.epmd_client_rules.specs.ReadingClaims.{ToldOnce, LinesLie, ReadExactly, PairAmbiguous}
 
@@ -57,7 +57,7 @@ registration_with port kind protocol highest lowest name extra connection creati
 
 -- the mapper takes the frame for a registration, and what it registers has these fields
 pub record Alive2Taken (frame : List ℕ) (port kind protocol highest lowest : ℕ) (name extra : List ℕ) : Type 0 where
-  pub asked : (given : ℕ) → room ≤ given → examine_of frame given ≡ Alive2
+  pub asked : (given : ℕ) → room ≤ given → examine_of frame given ≡ Ok Alive2
   pub named : run_at alive2_req 6 (body frame) ≡ name
   pub speaks : int_at alive2_req 4 (body frame) ≡ highest
   pub fields : (connection creation : ℕ)
@@ -65,18 +65,18 @@ pub record Alive2Taken (frame : List ℕ) (port kind protocol highest lowest : �
 
 -- for a question, and it looks for this name
 pub record PortPlease2Taken (frame name : List ℕ) : Type 0 where
-  pub asked : (given : ℕ) → room ≤ given → examine_of frame given ≡ PortPlease2
+  pub asked : (given : ℕ) → room ≤ given → examine_of frame given ≡ Ok PortPlease2
   pub sought : behind port_please2_req (body frame) ≡ name
 
 -- what a writer wrote is taken (Accepted.request_accepted)
 pub record RequestAccepted : Type 0 where
   pub alive2 : (port kind protocol highest lowest : ℕ) (name extra : List ℕ) (given count : ℕ) → Fit port kind protocol highest lowest
-      → (alive2_writing port kind protocol highest lowest name extra given).answer ≡ Written count
+      → (alive2_writing port kind protocol highest lowest name extra given).answer ≡ Ok count
       → Alive2Taken (alive2_writing port kind protocol highest lowest name extra given).bytes port kind protocol highest lowest name extra
-  pub port_please2 : (name : List ℕ) (given count : ℕ) → (port_please2_writing name given).answer ≡ Written count
+  pub port_please2 : (name : List ℕ) (given count : ℕ) → (port_please2_writing name given).answer ≡ Ok count
       → PortPlease2Taken (port_please2_writing name given).bytes name
-  pub names : (given count : ℕ) → (names_writing given).answer ≡ Written count
-      → (given' : ℕ) → room ≤ given' → examine_of (names_writing given).bytes given' ≡ Names
+  pub names : (given count : ℕ) → (names_writing given).answer ≡ Ok count
+      → (given' : ℕ) → room ≤ given' → examine_of (names_writing given).bytes given' ≡ Ok Names
 
 -- ---- "Reading what the mapper wrote gives back the place's fields that the reply carries (from 121 the short creation), save under 20"
 
@@ -101,7 +101,7 @@ port2_told p =
     }
 
 pub record Port2Back (b : List ℕ) (place : ℕ) (p : Registration) : Type 0 where
-  pub told : port2_read b ≡ cond (ltb place 64) (port2.Found (port2_told p)) (port2.Failed 1)
+  pub told : port2_read b ≡ Ok (cond (ltb place 64) (port2.Found (port2_told p)) (port2.Failed 1))
   pub name : place < 64 → part 12 (length (name_bytes p.name)) b ≡ name_bytes p.name
   pub extra : place < 64 → part (14 + length (name_bytes p.name)) (length (extra_bytes p.extra)) b ≡ extra_bytes p.extra
 
@@ -115,33 +115,33 @@ reading_of r = record { own = r.port; lines = lines_in r.registrations }
 
 -- over the call: whatever the mapper wrote, in a registry that calls can give (Called.reply_read)
 pub record ReplyRead : Type 0 where
-  pub alive2 : (r : Registry) (c : ℕ) (frame : List ℕ) (given : ℕ) → Reachable r → examine_of frame given ≡ Alive2
+  pub alive2 : (r : Registry) (c : ℕ) (frame : List ℕ) (given : ℕ) → Reachable r → examine_of frame given ≡ Ok Alive2
       → alive2_read (request_of r c frame given).bytes
-      ≡ alive2_told (int_at alive2_req 4 (body frame)) (result_of r c (run_at alive2_req 6 (body frame))) r.next
-  pub port2 : (r : Registry) (c : ℕ) (frame : List ℕ) (given : ℕ) → Reachable r → examine_of frame given ≡ PortPlease2
+      ≡ Ok (alive2_told (int_at alive2_req 4 (body frame)) (result_of r c (run_at alive2_req 6 (body frame))) r.next)
+  pub port2 : (r : Registry) (c : ℕ) (frame : List ℕ) (given : ℕ) → Reachable r → examine_of frame given ≡ Ok PortPlease2
       → Port2Back (request_of r c frame given).bytes (by_name r (behind port_please2_req (body frame))) (entry_at r (by_name r (behind port_please2_req (body frame))))
-  pub names : (r : Registry) (c : ℕ) (frame : List ℕ) (given : ℕ) (told : NamesReply) → Reachable r → examine_of frame given ≡ Names
+  pub names : (r : Registry) (c : ℕ) (frame : List ℕ) (given : ℕ) (told : Result NamesReply Unreadable) → Reachable r → examine_of frame given ≡ Ok Names
       → Tells (request_of r c frame given).bytes told
-      → (told ≡ listed (reading_of r)) ⊎ (told ≡ not_listed Ambiguous)
+      → (told ≡ listed (reading_of r)) ⊎ (told ≡ Err Ambiguous)
 
 -- both ends: a node that asks for a name that is registered reads its registration (Called.asked_and_read)
 abbrev pub AskedAndRead : Type 0
 AskedAndRead =
     (r : Registry) (c i given given' count : ℕ) → Reachable r → i < 64 → is_free (entry_at r i) ≡ false → room ≤ given'
-    → (port_please2_writing (name_bytes (entry_at r i).name) given).answer ≡ Written count
+    → (port_please2_writing (name_bytes (entry_at r i).name) given).answer ≡ Ok count
     → Port2Back (request_of r c (port_please2_writing (name_bytes (entry_at r i).name) given).bytes given').bytes i (entry_at r i)
 
 -- both ends, and two nodes: where a node registers with Result 0, it reads its creation, and whoever asks for it then reads what it registered with
 -- (Called.registered_and_read)
 pub record Registered (told found : List ℕ) (creation : ℕ) (p : Registration) : Type 0 where
-  pub told_creation : alive2_read told ≡ alive2_told p.highest 0 creation
+  pub told_creation : alive2_read told ≡ Ok (alive2_told p.highest 0 creation)
   pub found_back : Port2Back found 0 p
 
 abbrev pub RegisteredAndRead : Type 0
 RegisteredAndRead =
     (r : Registry) (c asker port kind protocol highest lowest : ℕ) (name extra : List ℕ) (given given' count count' reply reply' : ℕ) → Reachable r
-    → Fit port kind protocol highest lowest → (alive2_writing port kind protocol highest lowest name extra given).answer ≡ Written count
-    → (port_please2_writing name given').answer ≡ Written count' → result_of r c name ≡ 0 → room ≤ reply → room ≤ reply'
+    → Fit port kind protocol highest lowest → (alive2_writing port kind protocol highest lowest name extra given).answer ≡ Ok count
+    → (port_please2_writing name given').answer ≡ Ok count' → result_of r c name ≡ 0 → room ≤ reply → room ≤ reply'
     → Registered (request_of r c (alive2_writing port kind protocol highest lowest name extra given).bytes reply).bytes
     (request_of (request_of r c (alive2_writing port kind protocol highest lowest name extra given).bytes reply).registry asker (port_please2_writing name given').bytes reply').bytes
     r.next (registration_with port kind protocol highest lowest name extra c r.next)
@@ -151,7 +151,7 @@ RegisteredAndRead =
 -- the name and the extra bytes that are told are the reply's own (Back.parts_lie)
 abbrev pub PartsLie : Type 0
 PartsLie =
-    (b : List ℕ) (p : Port2) → port2_read b ≡ port2.Found p
+    (b : List ℕ) (p : Port2) → port2_read b ≡ Ok (port2.Found p)
     → (part p.name.at p.name.len b ≡ name_in b) × (part p.extra.at p.extra.len b ≡ extra_in b)
 
 -- ---- which number, exactly when: in each line the number is given if and only if what stands behind it holds (Exactly.refused_exactly)

@@ -1,6 +1,7 @@
 -- What is proved of a NAMES reply's readings, and of the answer. Each claim names the theorem in proofs/ that is its proof.
-use Rattle.std.specs.Prelude.{ℕ, ◌+◌, ◌≤◌, ◌≡◌, ◌↔◌, List, ◌∷◌, ◌++◌, map, length}
+use Rattle.std.specs.Prelude.{ℕ, ◌+◌, ◌≤◌, ◌≡◌, ◌↔◌, List, ◌∷◌, ◌++◌, map, length, Result}
 use Rattle.wire.specs.Run.{part}
+use Rattle.epmd_client_rules.specs.declared.unreadable.Unreadable.{Unreadable}
 use Rattle.epmd_client_rules.specs.declared.reply.LineAt.{LineAt}
 use Rattle.epmd_client_rules.specs.declared.reply.NamesReply.{NamesReply}
 use Rattle.epmd_client_rules.specs.Readings.{Line, line_text, Reading, Reads, lines_at, Tells}
@@ -8,7 +9,7 @@ use Rattle.epmd_client_rules.specs.Answers.{listing_number}
 
 -- the answer is fixed by the reply (ReadingLaws.told_once)
 abbrev pub ToldOnce : Type 0
-ToldOnce = (b : List ℕ) (r s : NamesReply) → Tells b r → Tells b s → r ≡ s
+ToldOnce = (b : List ℕ) (r s : Result NamesReply Unreadable) → Tells b r → Tells b s → r ≡ s
 
 -- "a reply with none gets 5. One readable in more than one way .. is refused with a new number 20, exactly then."
 abbrev pub NoReading : List ℕ → Type 0
@@ -27,7 +28,7 @@ pub record ReadAs (b : List ℕ) (number : ℕ) : Type 0 where
 
 -- (ReadingLaws.read_exactly)
 abbrev pub ReadExactly : Type 0
-ReadExactly = (b : List ℕ) (r : NamesReply) → Tells b r → ReadAs b (listing_number r.listing)
+ReadExactly = (b : List ℕ) (r : Result NamesReply Unreadable) → Tells b r → ReadAs b (listing_number r)
 
 -- the line that a place in a reply stands for
 abbrev pub line_in : List ℕ → LineAt → Line

@@ -1,12 +1,11 @@
 -- 02, P1. The readings of a NAMES reply: what could have been written as these bytes.
-use Rattle.std.specs.Prelude.{ℕ, ◌+◌, ◌-◌, ◌≤◌, ◌≡◌, true, List, [], ◌∷◌, ◌++◌, length, replicate}
+use Rattle.std.specs.Prelude.{ℕ, ◌+◌, ◌-◌, ◌≤◌, ◌≡◌, true, List, [], ◌∷◌, ◌++◌, length, replicate, Result, Ok, Err}
 use Rattle.wire.specs.Number.{be}
 use Rattle.wire.specs.Table.{table_bytes, Each}
 use Rattle.names.specs.Node.{node_name}
 use Rattle.epmd_rules.specs.Replies.{name_word, line_with}
 use Rattle.epmd_client_rules.specs.declared.unreadable.Unreadable.{Unreadable}
 use Rattle.epmd_client_rules.specs.declared.unreadable.Unreadable.TheVariants.{WrongLength, Ambiguous}
-use Rattle.epmd_client_rules.specs.declared.reply.Listing.TheVariants.{Listed, Refused}
 use Rattle.epmd_client_rules.specs.declared.reply.LineAt.{LineAt}
 use Rattle.epmd_client_rules.specs.declared.reply.NamesReply.{NamesReply}
 
@@ -55,14 +54,11 @@ no_line = record { at = 0; len = 0; port = 0 }
 abbrev pub lines_told : List Line → List LineAt
 lines_told xs = lines_at 4 xs ++ replicate (most - length xs) no_line
 
-abbrev pub listed : Reading → NamesReply
-listed m = record { listing = Listed; port = m.own; count = length m.lines; lines = lines_told m.lines }
-
-abbrev pub not_listed : Unreadable → NamesReply
-not_listed why = record { listing = Refused why; port = 0; count = 0; lines = replicate most no_line }
+abbrev pub listed : Reading → Result NamesReply Unreadable
+listed m = Ok (record { port = m.own; count = length m.lines; lines = lines_told m.lines })
 
 -- "a reply with none gets 5. One readable in more than one way (names may hold newlines) is refused with a new number 20, exactly then."
-pub data Tells (b : List ℕ) : NamesReply → Type 0 where
-  none : ((m : Reading) → Reads b m → ⊥) → Tells b (not_listed WrongLength)
-  several : (m n : Reading) → Reads b m → Reads b n → (m ≡ n → ⊥) → Tells b (not_listed Ambiguous)
+pub data Tells (b : List ℕ) : Result NamesReply Unreadable → Type 0 where
+  none : ((m : Reading) → Reads b m → ⊥) → Tells b (Err WrongLength)
+  several : (m n : Reading) → Reads b m → Reads b n → (m ≡ n → ⊥) → Tells b (Err Ambiguous)
   only : (m : Reading) → Reads b m → ((n : Reading) → Reads b n → n ≡ m) → Tells b (listed m)

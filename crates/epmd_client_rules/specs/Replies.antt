@@ -1,5 +1,5 @@
 -- 02, P1. "the reading of replies 118, 121, 119": what each says. A reply has no length before it: it is all the bytes that came.
-use Rattle.std.specs.Prelude.{ℕ, ◌+◌, Bool, cond, ◌||◌, List, [], ◌∷◌, length, eqb, leb}
+use Rattle.std.specs.Prelude.{ℕ, ◌+◌, Bool, cond, ◌||◌, List, [], ◌∷◌, length, eqb, leb, Result, Ok, Err}
 use Rattle.wire.specs.Layout.{extent, width, int_at, run_at}
 use Rattle.epmd_rules.specs.Messages.{alive2_xresp, alive2_resp, port2_resp, port2_head, port2_error}
 use Rattle.epmd_rules.specs.Requests.{Check, ◌else◌, first_refusal, tag}
@@ -33,10 +33,10 @@ abbrev pub creation_in : List ℕ → ℕ
 creation_in b = cond (eqb (tag b) 118) (int_at alive2_xresp 2 b) (int_at alive2_resp 2 b)
 
 -- "any Result above 0 an error told as it stands; the other fields of 118, 121 and 119 are told unexamined"
-unfoldable pub alive2_read : List ℕ → Alive2Reply
+unfoldable pub alive2_read : List ℕ → Result Alive2Reply Unreadable
 alive2_read b =
-    first_refusal alive2.Refused (reply_checks (is_alive2_reply (tag b)) (alive2_long b) b)
-    (cond (eqb (result_in b) 0) (alive2.Registered (tag b) (creation_in b)) (alive2.Failed (tag b) (result_in b)))
+    first_refusal Err (reply_checks (is_alive2_reply (tag b)) (alive2_long b) b)
+    (Ok (cond (eqb (result_in b) 0) (alive2.Registered (tag b) (creation_in b)) (alive2.Failed (tag b) (result_in b))))
 
 -- ---- 119
 
@@ -63,7 +63,7 @@ fields_in b =
       extra = record { at = width port2_head + length (name_in b) + 2; len = length (extra_in b) };
     }
 
-unfoldable pub port2_read : List ℕ → Port2Reply
+unfoldable pub port2_read : List ℕ → Result Port2Reply Unreadable
 port2_read b =
-    first_refusal port2.Refused (reply_checks (eqb (tag b) 119) (port2_long b) b)
-    (cond (eqb (result_in b) 0) (port2.Found (fields_in b)) (port2.Failed (result_in b)))
+    first_refusal Err (reply_checks (eqb (tag b) 119) (port2_long b) b)
+    (Ok (cond (eqb (result_in b) 0) (port2.Found (fields_in b)) (port2.Failed (result_in b))))

@@ -2,11 +2,12 @@
 ghost use Rattle.std.specs.Prelude.{◌≡◌};
 ghost use Rattle.epmd_client_rules.specs.Answers as spec;
 
-use crate::reply::{Alive2Reply, LineAt, Listing, NamesReply, Part, Port2, Port2Reply};
+use crate::reply::{Alive2Reply, LineAt, NamesReply, Part, Port2, Port2Reply};
+use crate::unreadable::Unreadable;
 
 // Result is 0 where the node is registered, and creation is 0 where it is not.
 #[repr(C)]
-#[derive(Clone, Copy)]
+#[derive(Clone, Copy, Default)]
 pub struct Alive2Numbers {
     pub refusal: u32,
     pub tag: u32,
@@ -16,7 +17,7 @@ pub struct Alive2Numbers {
 
 // Beside a refusal, or a Result above 0, the fields are 0.
 #[repr(C)]
-#[derive(Clone, Copy)]
+#[derive(Clone, Copy, Default)]
 pub struct Port2Numbers {
     pub refusal: u32,
     pub result: u32,
@@ -29,6 +30,7 @@ pub struct Port2Numbers {
     pub extra: Part,
 }
 
+// Beside a refusal all the others are 0.
 #[repr(C)]
 #[derive(Clone, Copy)]
 pub struct NamesNumbers {
@@ -38,105 +40,84 @@ pub struct NamesNumbers {
     pub line: [LineAt; 64],
 }
 
-impl Alive2Reply {
-    pub fn numbers(self) -> Alive2Numbers
-        ensures { result ≡ spec.alive2_numbers self }
-    {
-        match self {
-            Alive2Reply::Refused(why) => Alive2Numbers {
+impl From<Result<Alive2Reply, Unreadable>> for Alive2Numbers {
+    ghost from_gives = { λ said numbers. numbers ≡ spec.alive2_numbers said };
+
+    fn from(said: Result<Alive2Reply, Unreadable>) -> Alive2Numbers {
+        match said {
+            Err(why) => Alive2Numbers {
                 refusal: why.number(),
-                tag: 0,
-                result: 0,
-                creation: 0,
+                ..Alive2Numbers::default()
             },
-            Alive2Reply::Failed { tag, result } => Alive2Numbers {
-                refusal: 0,
+            Ok(Alive2Reply::Failed { tag, result }) => Alive2Numbers {
                 tag: tag as u32,
                 result: result as u32,
-                creation: 0,
+                ..Alive2Numbers::default()
             },
-            Alive2Reply::Registered { tag, creation } => Alive2Numbers {
-                refusal: 0,
+            Ok(Alive2Reply::Registered { tag, creation }) => Alive2Numbers {
                 tag: tag as u32,
-                result: 0,
                 creation,
+                ..Alive2Numbers::default()
             },
         }
     }
 }
 
-// A PORT2_RESP that tells no fields.
-fn no_fields(refusal: u32, res: u8) -> Port2Numbers
-    ensures { result ≡ spec.no_fields refusal res }
-{
-    Port2Numbers {
-        refusal,
-        result: res as u32,
-        port: 0,
-        highest: 0,
-        lowest: 0,
-        kind: 0,
-        protocol: 0,
-        name: Part { at: 0, len: 0 },
-        extra: Part { at: 0, len: 0 },
-    }
-}
+impl From<Port2> for Port2Numbers {
+    ghost from_gives = { λ found numbers. numbers ≡ spec.field_numbers found };
 
-impl Port2 {
-    pub fn numbers(self) -> Port2Numbers
-        ensures { result ≡ spec.field_numbers self }
-    {
-        let name = self.name;
-        let extra = self.extra;
+    fn from(found: Port2) -> Port2Numbers {
         Port2Numbers {
-            refusal: 0,
-            result: 0,
-            port: self.port,
-            highest: self.highest,
-            lowest: self.lowest,
-            kind: self.kind,
-            protocol: self.protocol,
-            name,
-            extra,
+            port: found.port,
+            highest: found.highest,
+            lowest: found.lowest,
+            kind: found.kind,
+            protocol: found.protocol,
+            name: found.name,
+            extra: found.extra,
+            ..Port2Numbers::default()
         }
     }
 }
 
-impl Port2Reply {
-    pub fn numbers(self) -> Port2Numbers
-        ensures { result ≡ spec.port2_numbers self }
-    {
-        match self {
-            Port2Reply::Refused(why) => no_fields(why.number(), 0),
-            Port2Reply::Failed { result } => no_fields(0, result),
-            Port2Reply::Found(p) => p.numbers(),
+impl From<Result<Port2Reply, Unreadable>> for Port2Numbers {
+    ghost from_gives = { λ said numbers. numbers ≡ spec.port2_numbers said };
+
+    fn from(said: Result<Port2Reply, Unreadable>) -> Port2Numbers {
+        match said {
+            Err(why) => Port2Numbers {
+                refusal: why.number(),
+                ..Port2Numbers::default()
+            },
+            Ok(Port2Reply::Failed { result: failed }) => Port2Numbers {
+                result: failed as u32,
+                ..Port2Numbers::default()
+            },
+            Ok(Port2Reply::Found(found)) => Port2Numbers::from(found),
         }
     }
 }
 
-impl Listing {
-    // The refusal's number, or 0.
-    pub fn number(self) -> u32
-        ensures { result ≡ spec.listing_number self }
-    {
-        match self {
-            Listing::Listed => 0,
-            Listing::Refused(why) => why.number(),
-        }
-    }
-}
+impl From<Result<NamesReply, Unreadable>> for NamesNumbers {
+    ghost from_gives = { λ said numbers. numbers ≡ spec.names_numbers said };
 
-impl NamesReply {
-    pub fn numbers(self) -> NamesNumbers
-        ensures { result ≡ spec.names_numbers self }
-    {
-        let listing = self.listing;
-        let line = self.lines;
-        NamesNumbers {
-            refusal: listing.number(),
-            port: self.port,
-            count: self.count,
-            line,
+    fn from(said: Result<NamesReply, Unreadable>) -> NamesNumbers {
+        match said {
+            Err(why) => NamesNumbers {
+                refusal: why.number(),
+                port: 0,
+                count: 0,
+                line: [LineAt::default(); 64],
+            },
+            Ok(names) => {
+                let line = names.lines;
+                NamesNumbers {
+                    refusal: 0,
+                    port: names.port,
+                    count: names.count,
+                    line,
+                }
+            }
         }
     }
 }

@@ -1,24 +1,19 @@
 ghost use Rattle.std.specs.Prelude.{◌≡◌};
 ghost use Rattle.epmd_client_rules.specs.Answers.{unreadable_number};
 
-// Why a reply is not read: another tag, a length that disagrees (NAMES: no reading at all), more
-// readings than one.
-#[derive(Clone, Copy)]
+// Why a reply is not read, with the number that a refused caller sees: another tag, a length that
+// disagrees (NAMES: no reading at all), more readings than one.
+#[derive(Clone, Copy, Debug, PartialEq, Eq)]
 pub enum Unreadable {
-    WrongTag,
-    WrongLength,
-    Ambiguous,
+    WrongTag = 4,
+    WrongLength = 5,
+    Ambiguous = 20,
 }
 
 impl Unreadable {
-    // The number that a refused caller sees.
     pub fn number(self) -> u32
         ensures { result ≡ unreadable_number self }
     {
-        match self {
-            Unreadable::WrongTag => 4,
-            Unreadable::WrongLength => 5,
-            Unreadable::Ambiguous => 20,
-        }
+        self as u32
     }
 }

@@ -2,12 +2,14 @@
 ghost use Rattle.std.specs.Prelude.{◌≡◌, ◌+◌, ◌≤◌, [], ◌∷◌, length};
 ghost use Rattle.wire.specs.Decimal.{decimal};
 ghost use Rattle.wire.specs.Output.{overwrite, written};
-ghost use Rattle.wire.specs.Layout.{encode, int};
-ghost use Rattle.epmd_rules.specs.Messages.{alive2_xresp, alive2_resp, port2_head};
-ghost use Rattle.epmd_rules.specs.Requests.{line_room, room};
-ghost use Rattle.epmd_rules.specs.Replies.{creation_field, short_creation, alive2_reply, port2_with, port2_missing, line_with};
+ghost use Rattle.wire.specs.Layout.{encode, int, number};
+ghost use Rattle.epmd_rules.specs.Messages.{port2_head};
+ghost use Rattle.epmd_rules.specs.Requests.{line_room};
+ghost use Rattle.epmd_rules.specs.Replies.{creation_field, alive2_reply, port2_with, port2_missing, line_with};
 
 use crate::runs::put_run;
+use epmd_rules::registration::Node;
+use wire::BigEndian;
 
 // The longest line of a NAMES reply, and the longest reply: what every frame call asks for.
 pub const LINE: usize = 275;
@@ -16,100 +18,72 @@ pub const ROOM: usize = 4 + 64 * LINE;
 
 // With a Result above 0 the creation field is 0.
 fn creation_field(res: u8, creation: u32) -> u32
-    ensures { result ≡ creation_field res creation }
+    ensures value { result ≡ creation_field res creation }
+    ensures upper_bound { result ≤ creation }
 {
-    if res == 0 {
-        return creation;
-    }
-    0
+    if res == 0 { creation } else { 0 }
 }
 
-fn short_field(res: u8, creation: u32) -> u16
-    ensures { result ≡ creation_field res (short_creation creation) }
+// Writes tag, Result and the creation field, and tells how many bytes these are.
+fn put_alive2_resp<T: BigEndian>(out: &mut [u8], tag: u8, res: u8, creation: T) -> usize
+    requires { 2 + T.WIDTH ≤ length out.old }
+    ensures value { result ≡ 2 + T.WIDTH }
+    ensures out_after { out.new ≡ written (encode (number 1 ∷ number 1 ∷ number T.WIDTH ∷ []) (int tag ∷ int res ∷ int (T.value creation) ∷ [])) out.old }
 {
-    if res == 0 {
-        return (1 + creation % 3) as u16;
-    }
-    0
+    wire::put(out, 0, tag);
+    wire::put(out, 1, res);
+    wire::put(out, 2, creation);
+    2 + T::WIDTH
 }
 
-fn alive2_x_resp(res: u8, creation: u32) -> [u8; 6]
-    ensures { result ≡ encode alive2_xresp (int 118 ∷ int res ∷ int creation ∷ []) }
-{
-    let mut b = [0u8; 6];
-    wire::put8(&mut b, 0, 118);
-    wire::put8(&mut b, 1, res);
-    wire::put32(&mut b, 2, creation);
-    b
-}
-
-fn alive2_resp(res: u8, creation: u16) -> [u8; 4]
-    ensures { result ≡ encode alive2_resp (int 121 ∷ int res ∷ int creation ∷ []) }
-{
-    let mut b = [0u8; 4];
-    wire::put8(&mut b, 0, 121);
-    wire::put8(&mut b, 1, res);
-    wire::put16(&mut b, 2, creation);
-    b
-}
-
-// Writes the reply to ALIVE2_REQ, and tells its length.
+// Writes the reply to ALIVE2_REQ, and tells its length. Result is a byte, since `alive2_reply`, which
+// this promises, is defined for each.
+#[tactic(auto, unfolding(epmd_rules::specs::Replies::alive2_reply))]
 pub fn put_alive2_reply(out: &mut [u8], highest: u16, res: u8, creation: u32) -> usize
-    requires { room ≤ length out.old }
+    requires { 6 ≤ length out.old }
     ensures value { result ≡ length (alive2_reply highest res creation) }
     ensures out_after { out.new ≡ written (alive2_reply highest res creation) out.old }
 {
     if 6 <= highest {
-        let long = alive2_x_resp(res, creation_field(res, creation));
-        wire::put_bytes(out, 0, &long);
-        return 6;
+        return put_alive2_resp(out, 118, res, creation_field(res, creation));
     }
-    let short = alive2_resp(res, short_field(res, creation));
-    wire::put_bytes(out, 0, &short);
-    4
+    put_alive2_resp(out, 121, res, creation_field(res, 1 + creation % 3) as u16)
 }
 
 // All of PORT2_RESP before its name of n bytes.
-fn port2_head(port: u16, kind: u8, protocol: u8, highest: u16, lowest: u16, n: u16) -> [u8; 12]
-    ensures { result ≡ encode port2_head (int 119 ∷ int 0 ∷ int port ∷ int kind ∷ int protocol ∷ int highest ∷ int lowest ∷ int n ∷ []) }
+#[tactic(auto, unfolding(wire::specs::Output::overwrite))]
+fn port2_head(node: Node, n: u16) -> [u8; 12]
+    ensures { result ≡ encode port2_head (int 119 ∷ int 0 ∷ int node.port ∷ int node.kind ∷ int node.protocol ∷ int node.highest ∷ int node.lowest ∷ int n ∷ []) }
 {
     let mut b = [0u8; 12];
-    wire::put8(&mut b, 0, 119);
-    wire::put8(&mut b, 1, 0);
-    wire::put16(&mut b, 2, port);
-    wire::put8(&mut b, 4, kind);
-    wire::put8(&mut b, 5, protocol);
-    wire::put16(&mut b, 6, highest);
-    wire::put16(&mut b, 8, lowest);
-    wire::put16(&mut b, 10, n);
+    wire::put::<u8>(&mut b, 0, 119);
+    wire::put::<u8>(&mut b, 1, 0);
+    wire::put::<u16>(&mut b, 2, node.port);
+    wire::put::<u8>(&mut b, 4, node.kind);
+    wire::put::<u8>(&mut b, 5, node.protocol);
+    wire::put::<u16>(&mut b, 6, node.highest);
+    wire::put::<u16>(&mut b, 8, node.lowest);
+    wire::put::<u16>(&mut b, 10, n);
     b
 }
 
 // Writes PORT2_RESP for what is registered, and tells its length.
-pub fn put_port2_found(
-    out: &mut [u8],
-    port: u16,
-    kind: u8,
-    protocol: u8,
-    highest: u16,
-    lowest: u16,
-    name: &[u8],
-    extra: &[u8],
-) -> usize
-    requires { (room ≤ length out.old) × (length name.now ≤ 255) × (length extra.now ≤ 128) }
-    ensures value { result ≡ length (port2_with port kind protocol highest lowest name.now extra.now) }
-    ensures out_after { out.new ≡ written (port2_with port kind protocol highest lowest name.now extra.now) out.old }
+pub fn put_port2_found(out: &mut [u8], node: Node, name: &[u8], extra: &[u8]) -> usize
+    requires { (14 + length name.now + length extra.now ≤ length out.old) × (length name.now ≤ 65535) × (length extra.now ≤ 65535) }
+    ensures value { result ≡ length (port2_with node.port node.kind node.protocol node.highest node.lowest name.now extra.now) }
+    ensures out_after { out.new ≡ written (port2_with node.port node.kind node.protocol node.highest node.lowest name.now extra.now) out.old }
 {
     let n = name.len();
-    let head = port2_head(port, kind, protocol, highest, lowest, n as u16);
+    let head = port2_head(node, n as u16);
     wire::put_bytes(out, 0, &head);
     wire::put_bytes(out, 12, name);
     put_run(out, 12 + n, extra)
 }
 
 // Writes "not found", and tells its length.
+#[tactic(auto, using(wire::proofs::OutputLaws::overwrite_front))]
 pub fn put_port2_missing(out: &mut [u8]) -> usize
-    requires { room ≤ length out.old }
+    requires { 2 ≤ length out.old }
     ensures value { result ≡ length port2_missing }
     ensures out_after { out.new ≡ written port2_missing out.old }
 {
@@ -119,6 +93,7 @@ pub fn put_port2_missing(out: &mut [u8]) -> usize
 }
 
 // Writes a port in decimal at an offset, and tells its length: at most five digits.
+#[tactic(auto, using(epmd_rules::proofs::ReplyLaws::port_short))]
 fn put_port(out: &mut [u8], at: usize, port: u16) -> usize
     requires { at + 5 ≤ length out.old }
     ensures value { result ≡ length (decimal port) }

@@ -33,120 +33,94 @@ const NAME: usize = 11;
 pub const EXTRA_MOST: usize = 128;
 
 // Tags 100, 107 and 115: DUMP, KILL and STOP.
+#[tactic(auto, unfolding(epmd_rules::specs::Requests::is_withheld))]
 fn is_withheld(tag: u8) -> bool
     ensures { result ≡ is_withheld tag }
 {
-    if tag == 100 {
-        return true;
-    }
-    if tag == 107 {
-        return true;
-    }
-    tag == 115
+    tag == 100 || tag == 107 || tag == 115
 }
 
 // "lowest ≤ highest, lowest ≤ 6, highest ≥ 5".
+#[tactic(auto, unfolding(epmd_rules::specs::Requests::versions_ok))]
 pub fn versions_ok(highest: u16, lowest: u16) -> bool
     ensures { result ≡ versions_ok highest lowest }
 {
-    if highest < lowest {
-        return false;
-    }
-    if 6 < lowest {
-        return false;
-    }
-    5 <= highest
+    lowest <= highest && lowest <= 6 && 5 <= highest
 }
 
-fn examine_alive2(body: &[u8]) -> Request
+#[tactic(auto, using(epmd_rules::proofs::RequestLaws::alive2_laws))]
+fn examine_alive2(body: &[u8]) -> Result<Request, Refusal>
     requires { be_at 1 0 body.now ≡ 120 }
     ensures { result ≡ examine_body body.now }
 {
     if !runs_end(body, NLEN) {
-        return Request::Refused(Refusal::BadLength);
+        return Err(Refusal::BadLength);
     }
-    let nlen = wire::get16(body, NLEN) as usize;
-    let elen = wire::get16(body, NAME + nlen) as usize;
+    let nlen = wire::get::<u16>(body, NLEN) as usize;
+    let elen = wire::get::<u16>(body, NAME + nlen) as usize;
     if EXTRA_MOST < elen {
-        return Request::Refused(Refusal::BadLength);
+        return Err(Refusal::BadLength);
     }
     if !names::is_node_name(wire::get_part(body, NAME, nlen)) {
-        return Request::Refused(Refusal::BadName);
+        return Err(Refusal::BadName);
     }
-    if !versions_ok(wire::get16(body, HIGHEST), wire::get16(body, LOWEST)) {
-        return Request::Refused(Refusal::BadVersions);
+    if !versions_ok(
+        wire::get::<u16>(body, HIGHEST),
+        wire::get::<u16>(body, LOWEST),
+    ) {
+        return Err(Refusal::BadVersions);
     }
-    Request::Alive2
+    Ok(Request::Alive2)
 }
 
-fn examine_port_please2(body: &[u8]) -> Request
+fn examine_port_please2(body: &[u8]) -> Result<Request, Refusal>
     requires { (1 ≤ length body.now) × (be_at 1 0 body.now ≡ 122) }
     ensures { result ≡ examine_body body.now }
 {
     if !names::is_node_name(&body[1..]) {
-        return Request::Refused(Refusal::BadName);
+        return Err(Refusal::BadName);
     }
-    Request::PortPlease2
+    Ok(Request::PortPlease2)
 }
 
-fn examine_names(body: &[u8]) -> Request
+#[tactic(auto, using(epmd_rules::proofs::RequestLaws::names_laws))]
+fn examine_names(body: &[u8]) -> Result<Request, Refusal>
     requires { be_at 1 0 body.now ≡ 110 }
     ensures { result ≡ examine_body body.now }
 {
     if body.len() != 1 {
-        return Request::Refused(Refusal::BadLength);
+        return Err(Refusal::BadLength);
     }
-    Request::Names
+    Ok(Request::Names)
 }
 
 // What the body of a frame asks for.
-fn examine_body(body: &[u8]) -> Request
+#[tactic(auto, using(epmd_rules::proofs::RequestLaws::tag_laws))]
+fn examine_body(body: &[u8]) -> Result<Request, Refusal>
     requires { 1 ≤ length body.now }
     ensures { result ≡ examine_body body.now }
 {
-    let tag = wire::get8(body, 0);
-    if tag == 120 {
-        return examine_alive2(body);
+    match wire::get::<u8>(body, 0) {
+        120 => examine_alive2(body),
+        122 => examine_port_please2(body),
+        110 => examine_names(body),
+        tag if is_withheld(tag) => Err(Refusal::NotServed),
+        _ => Err(Refusal::UnknownTag),
     }
-    if tag == 122 {
-        return examine_port_please2(body);
-    }
-    if tag == 110 {
-        return examine_names(body);
-    }
-    if is_withheld(tag) {
-        return Request::Refused(Refusal::NotServed);
-    }
-    Request::Refused(Refusal::UnknownTag)
 }
 
 // What a frame asks for, if its reply has so many bytes of room.
-pub fn examine(frame: &[u8], given: usize) -> Request
+#[tactic(auto, using(epmd_rules::proofs::RequestLaws::frame_laws))]
+pub fn examine(frame: &[u8], given: usize) -> Result<Request, Refusal>
     ensures { result ≡ examine_of frame.now given }
 {
     if given < ROOM {
-        return Request::Refused(Refusal::OutputTooShort);
+        return Err(Refusal::OutputTooShort);
     }
     if !wire::is_frame(frame) {
-        return Request::Refused(Refusal::NotAFrame);
+        return Err(Refusal::NotAFrame);
     }
     examine_body(wire::body_of(frame))
-}
-
-// The name and the highest version of an ALIVE2 body.
-pub fn alive2_name(body: &[u8]) -> &[u8]
-    requires { Alive2Body body.now }
-    ensures { result.now ≡ run_at alive2_req 6 body.now }
-{
-    let nlen = wire::get16(body, NLEN) as usize;
-    wire::get_part(body, NAME, nlen)
-}
-
-pub fn alive2_highest(body: &[u8]) -> u16
-    requires { Alive2Body body.now }
-    ensures { result ≡ int_at alive2_req 4 body.now }
-{
-    wire::get16(body, HIGHEST)
 }
 
 fn extra_of(s: &[u8]) -> Extra
@@ -161,25 +135,47 @@ fn extra_of(s: &[u8]) -> Extra
     }
 }
 
-// The registration that an ALIVE2 body asks for.
-pub fn registration_of(body: &[u8], connection: u32, creation: u32) -> Registration
-    requires { Alive2Body body.now }
-    ensures { result ≡ registration_of connection creation body.now }
-{
-    let nlen = wire::get16(body, NLEN) as usize;
-    let at = NAME + nlen;
-    let elen = wire::get16(body, at) as usize;
-    let name = Name::of(wire::get_part(body, NAME, nlen));
-    let extra = extra_of(wire::get_part(body, at + 2, elen));
-    Registration {
-        name,
-        extra,
-        kind: wire::get8(body, KIND),
-        protocol: wire::get8(body, PROTOCOL),
-        port: wire::get16(body, PORT),
-        highest: wire::get16(body, HIGHEST),
-        lowest: wire::get16(body, LOWEST),
-        connection,
-        creation,
+// An ALIVE2_REQ, as its body, whose name and extra bytes can be held: `examine` takes no other.
+#[derive(Clone, Copy)]
+pub struct Alive2Req<'a> {
+    pub body: &'a [u8],
+    pub ghost held: { Alive2Body body.now },
+}
+
+impl<'a> Alive2Req<'a> {
+    // A name behind its length is read alike in a record and a slot: over their offsets as parameters it would be no plainer.
+    pub fn name(&self) -> &'a [u8]
+        ensures { result.now ≡ run_at alive2_req 6 self.now.body.now }
+    {
+        let nlen = wire::get::<u16>(self.body, NLEN) as usize;
+        wire::get_part(self.body, NAME, nlen)
+    }
+
+    pub fn highest(&self) -> u16
+        ensures { result ≡ int_at alive2_req 4 self.now.body.now }
+    {
+        wire::get::<u16>(self.body, HIGHEST)
+    }
+
+    // The registration that it asks for.
+    #[tactic(auto, unfolding(epmd_rules::specs::Serve::registration_of))]
+    pub fn registration(&self, connection: u32, creation: u32) -> Registration
+        ensures { result ≡ registration_of connection creation self.now.body.now }
+    {
+        let body = self.body;
+        let nlen = wire::get::<u16>(body, NLEN) as usize;
+        let at = NAME + nlen;
+        let elen = wire::get::<u16>(body, at) as usize;
+        Registration {
+            name: Name::of(wire::get_part(body, NAME, nlen)),
+            extra: extra_of(wire::get_part(body, at + 2, elen)),
+            kind: wire::get::<u8>(body, KIND),
+            protocol: wire::get::<u8>(body, PROTOCOL),
+            port: wire::get::<u16>(body, PORT),
+            highest: wire::get::<u16>(body, HIGHEST),
+            lowest: wire::get::<u16>(body, LOWEST),
+            connection,
+            creation,
+        }
     }
 }

@@ -14,11 +14,11 @@ pub fn runs_end(s: &[u8], at: usize) -> bool
     if n < first + 2 {
         return false;
     }
-    let next = first + wire::get16(s, at) as usize;
+    let next = first + wire::get::<u16>(s, at) as usize;
     if n - 2 < next {
         return false;
     }
-    n == next + 2 + wire::get16(s, next) as usize
+    n == next + 2 + wire::get::<u16>(s, next) as usize
 }
 
 // Writes a run behind its length at an offset, and tells the offset behind it.
@@ -29,7 +29,7 @@ pub fn put_run(out: &mut [u8], at: usize, bytes: &[u8]) -> usize
 {
     let n = bytes.len();
     let next = at + 2;
-    wire::put16(out, at, n as u16);
+    wire::put::<u16>(out, at, n as u16);
     wire::put_bytes(out, next, bytes);
     next + n
 }

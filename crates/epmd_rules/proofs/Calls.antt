@@ -6,6 +6,7 @@ use mathlib.Core.List.{List}
 use native.Mathlib.Omega.{arith}
 use borrow.Author.Tests.{ne_eqb, eqb-true, eqb-false, lt-ltb, ltb-true}
 use lib.Dec.{eqb, ltb}
+use Rattle.std.specs.Prelude.{Result, Ok, Err}
 use lib.ListN.{length, set, length-set}
 use lib.Seq.{get_or-set_same, get_or-set_other}
 use Rattle.wire.specs.Frame.{body}
@@ -15,7 +16,8 @@ use Rattle.names.specs.Held.{name_of, name_bytes}
 use Rattle.epmd_rules.specs.declared.registration.Registration.{Registration}
 use Rattle.epmd_rules.specs.State.{Registry}
 use Rattle.epmd_rules.specs.declared.request.Request.{Request}
-use Rattle.epmd_rules.specs.declared.request.Request.TheVariants.{Alive2, PortPlease2, Names, Refused}
+use Rattle.epmd_rules.specs.declared.request.Request.TheVariants.{Alive2, PortPlease2, Names}
+use Rattle.epmd_rules.specs.declared.refusal.Refusal.{Refusal}
 use Rattle.epmd_rules.specs.Messages.{alive2_req}
 use Rattle.epmd_rules.specs.Registration.{free, is_free}
 use Rattle.epmd_rules.specs.Registry.{entry_at, by_connection, lowest_free, stepped, filled, close_of}
@@ -42,12 +44,12 @@ alive2_keeps r c b =
     let h = int_at alive2_req 4 b in
     either r (eqb k 0) _ _ (replied_keeps r (filled r (registration_of c r.next b)) (alive2_reply h 0 r.next)) (replied_keeps r r (alive2_reply h k 0))
 
-outcome_keeps : (r : Registry) (c : ℕ) (b : List ℕ) (q : Request) → Keeps r (outcome_of r c b q)
+outcome_keeps : (r : Registry) (c : ℕ) (b : List ℕ) (q : Result Request Refusal) → Keeps r (outcome_of r c b q)
 unfolding port2_of names_of
-outcome_keeps r c b (Refused n) = record { count = refl; kept = λ h. (refl, refl) }
-outcome_keeps r c b Alive2 = alive2_keeps r c b
-outcome_keeps r c b PortPlease2 = replied_keeps r r _
-outcome_keeps r c b Names = replied_keeps r r _
+outcome_keeps r c b (Err n) = record { count = refl; kept = λ h. (refl, refl) }
+outcome_keeps r c b (Ok Alive2) = alive2_keeps r c b
+outcome_keeps r c b (Ok PortPlease2) = replied_keeps r r _
+outcome_keeps r c b (Ok Names) = replied_keeps r r _
 
 pub refusal_keeps : RefusalKeeps
 unfolding request_of
@@ -55,7 +57,7 @@ refusal_keeps r c frame given = outcome_keeps r c (body frame) (examine_of frame
 
 pub failure_keeps : FailureKeeps
 failure_keeps r c frame given e h =
-    rw (call_asked r c frame given Alive2 e, alive2_fails r c (body frame) (result_of r c (run_at alive2_req 6 (body frame))) refl h)
+    rw (call_asked r c frame given (Ok Alive2) e, alive2_fails r c (body frame) (result_of r c (run_at alive2_req 6 (body frame))) refl h)
 
 -- ---- creation
 
@@ -75,13 +77,13 @@ creation_wraps = (refl, λ c h. rw (ne_eqb c 4294967295 (λ (e : c ≡ 429496729
 -- the registry after a request is the one before it, or has one more registration
 pub data After (r : Registry) (c : ℕ) (frame : List ℕ) (given : ℕ) (s : Registry) : Type 0 where
   same : s ≡ r → After r c frame given s
-  more : examine_of frame given ≡ Alive2 → result_of r c (run_at alive2_req 6 (body frame)) ≡ 0 → s ≡ filled r (registration_of c r.next (body frame))
+  more : examine_of frame given ≡ Ok Alive2 → result_of r c (run_at alive2_req 6 (body frame)) ≡ 0 → s ≡ filled r (registration_of c r.next (body frame))
       → After r c frame given s
 
 pub after_request : (r : Registry) (c : ℕ) (frame : List ℕ) (given : ℕ) → After r c frame given (request_of r c frame given).registry
 unfolding request_of port2_of names_of
 after_request r c frame given = by (examine_of frame given) refl where
-  alive2 : examine_of frame given ≡ Alive2 → (t : Bool) → eqb (result_of r c (run_at alive2_req 6 (body frame))) 0 ≡ t → After r c frame given (alive2_of r c (body frame)).registry
+  alive2 : examine_of frame given ≡ Ok Alive2 → (t : Bool) → eqb (result_of r c (run_at alive2_req 6 (body frame))) 0 ≡ t → After r c frame given (alive2_of r c (body frame)).registry
   alive2 a true e =
       let z = eqb-true (result_of r c (run_at alive2_req 6 (body frame))) 0 e in
       more a z (rw (alive2_fills r c (body frame) (result_of r c (run_at alive2_req 6 (body frame))) refl z))
@@ -89,11 +91,11 @@ after_request r c frame given = by (examine_of frame given) refl where
       let k = result_of r c (run_at alive2_req 6 (body frame)) in
       same (rw (alive2_fails r c (body frame) k refl (eqb-false k 0 e)))
 
-  by : (q : Request) → examine_of frame given ≡ q → After r c frame given (outcome_of r c (body frame) q).registry
-  by (Refused n) a = same refl
-  by Alive2 a = alive2 a (eqb (result_of r c (run_at alive2_req 6 (body frame))) 0) refl
-  by PortPlease2 a = same refl
-  by Names a = same refl
+  by : (q : Result Request Refusal) → examine_of frame given ≡ q → After r c frame given (outcome_of r c (body frame) q).registry
+  by (Err n) a = same refl
+  by (Ok Alive2) a = alive2 a (eqb (result_of r c (run_at alive2_req 6 (body frame))) 0) refl
+  by (Ok PortPlease2) a = same refl
+  by (Ok Names) a = same refl
 
 module _ (r : Registry) (p : Registration) (long : length r.registrations ≡ 64) (room : lowest_free r < 64) where
   pub filled_here : entry_at (filled r p) (lowest_free r) ≡ p
@@ -111,7 +113,7 @@ taken_kept r c frame given i l h t = by (after_request r c frame given) where
   by (more a z e) =
       let room = (result_admits r c (run_at alive2_req 6 (body frame)) z).room in
       let other : i ≡ lowest_free r → ⊥ =
-      λ (k : i ≡ lowest_free r). (let w : ◌≡◌ {A = ℕ} 0 1 = cc (ap (λ (j : ℕ). is_free (entry_at r j)) k, lowest_is_free r l room) in absurd (omega arith)) in
+      λ (k : i ≡ lowest_free r). (cc (ap (λ (j : ℕ). is_free (entry_at r j)) k, lowest_is_free r l room)) in
       ap (λ (x : Registry). entry_at x i) e ∙ filled_other r (registration_of c r.next (body frame)) l room i other
 
 -- ---- close

@@ -6,6 +6,7 @@ use mathlib.Core.List.{List, [], ◌∷◌, ◌++◌}
 use native.Mathlib.Omega.{arith}
 use borrow.Author.Tests.{lt-ltb, ltb-true}
 use lib.Dec.{eqb, ltb, leb}
+use Rattle.std.specs.Prelude.{Result, Ok, Err}
 use lib.ListN.{length, length-append}
 use lib.Seq.{get_or-set_other}
 use Rattle.wire.specs.Run.{part, same_bytes}
@@ -19,7 +20,8 @@ use Rattle.names.specs.Held.{name_bytes}
 use Rattle.epmd_rules.specs.State.{Registry}
 use Rattle.epmd_rules.specs.declared.registration.Registration.{Registration}
 use Rattle.epmd_rules.specs.declared.request.Request.{Request}
-use Rattle.epmd_rules.specs.declared.request.Request.TheVariants.{Refused, Alive2, PortPlease2, Names}
+use Rattle.epmd_rules.specs.declared.request.Request.TheVariants.{Alive2, PortPlease2, Names}
+use Rattle.epmd_rules.specs.declared.refusal.Refusal.{Refusal}
 use Rattle.epmd_rules.specs.Messages.{alive2_req, alive2_xresp, alive2_resp, port_please2_req}
 use Rattle.epmd_rules.specs.Registration.{free, is_free, extra_bytes, has_name, has_connection}
 use Rattle.epmd_rules.specs.Registry.{entry_at, by_name, by_connection, filled}
@@ -74,9 +76,9 @@ call_finds r c given i reach g h t =
     let s = always_sound r reach in
     let e = s.each i h in
     let f = frame_of (122 ∷ n) (omega arith) (omega (arith, e.name_held)) in
-    let a : examine_of (framed (122 ∷ n)) given ≡ PortPlease2 =
+    let a : examine_of (framed (122 ∷ n)) given ≡ Ok PortPlease2 =
     framed_body (framed (122 ∷ n)) given g f.0 ∙ ap examine_body f.1 ∙ port2_asked (122 ∷ n) refl (e.named t) in
-    call_asked r c (framed (122 ∷ n)) given PortPlease2 a
+    call_asked r c (framed (122 ∷ n)) given (Ok PortPlease2) a
     ∙ ap (port2_of r) f.1
     ∙ ap (replied r) (asked_found r i reach h t)
 
@@ -126,8 +128,8 @@ port2_fits r name reach = by (ltb (by_name r name) 64) refl where
 pub replies_fit : RepliesFit
 unfolding request_of port2_of names_of
 replies_fit r c frame given reach = by (examine_of frame given) where
-  by : (q : Request) → length (outcome_of r c (body frame) q).bytes ≤ room
-  by (Refused n) = omega arith
-  by Alive2 = alive2_fits r c (body frame)
-  by PortPlease2 = port2_fits r (behind port_please2_req (body frame)) reach
-  by Names = names_fit r reach
+  by : (q : Result Request Refusal) → length (outcome_of r c (body frame) q).bytes ≤ room
+  by (Err n) = omega arith
+  by (Ok Alive2) = alive2_fits r c (body frame)
+  by (Ok PortPlease2) = port2_fits r (behind port_please2_req (body frame)) reach
+  by (Ok Names) = names_fit r reach

@@ -5,7 +5,7 @@ use mathlib.Core.Bool.{Bool, true, false, not}
 use mathlib.Core.Logic.{◌⊎◌, inl, inr, ⊎_elim}
 use mathlib.Core.List.{List}
 use native.Mathlib.Omega.{arith}
-use borrow.Author.Tests.{eq-eqb, eqb-true, ltb-true, ltb-false}
+use borrow.Author.Tests.{not-true, eq-eqb, eqb-true, ltb-true, ltb-false}
 use lib.Dec.{eqb, ltb}
 use lib.ListN.{length}
 use Rattle.wire.specs.Lookup.{first_at}
@@ -24,10 +24,6 @@ pub record Finds (has : Registration → Bool) (holds : Registration → Type 0)
   pub taken : (p : Registration) → has p ≡ true → is_free p ≡ false
   pub held : (p : Registration) → has p ≡ true → holds p
   pub found : (p : Registration) → is_free p ≡ false → holds p → has p ≡ true
-
-not-true : (t : Bool) → not t ≡ true → t ≡ false
-not-true false e = refl
-not-true true e = let w : ◌≡◌ {A = ℕ} 0 1 = cc in absurd (omega arith)
 
 pub finds_name : (name : List ℕ) → Finds (has_name name) (Named name)
 unfolding has_name
@@ -50,7 +46,7 @@ finds_connection c =
 -- what is not found is not there
 pub not_found : {has : Registration → Bool} {holds : Registration → Type 0} → Finds has holds → (p : Registration) → has p ≡ false
     → is_free p ≡ false → holds p → ⊥
-not_found finds p h f e = let w : ◌≡◌ {A = ℕ} 0 1 = cc (finds.found p f e, h) in absurd (omega arith)
+not_found finds p h f e = cc (finds.found p f e, h)
 
 -- where one of two things is so, and the first exactly if something holds, the second is so exactly if it does not
 otherwise : {A B P : Type 0} → A ⊎ B → (A → B → ⊥) → Exactly A P → Exactly B (P → ⊥)
@@ -105,7 +101,7 @@ module _ (r : Registry) (long : length r.registrations ≡ 64) where
   pub full_exactly : Exactly (64 ≤ lowest_free r) (NoPlace r)
   full_exactly = (λ g i m. lower_taken i (omega arith), λ all. ⊎_elim (λ l. absurd (free_yet_taken l all)) (λ g. g) (below (lowest_free r) 64)) where
     free_yet_taken : lowest_free r < 64 → NoPlace r → ⊥
-    free_yet_taken l all = let w : ◌≡◌ {A = ℕ} 0 1 = cc (lowest_is_free l, all (lowest_free r) l) in absurd (omega arith)
+    free_yet_taken l all = cc (lowest_is_free l, all (lowest_free r) l)
 
   pub room_exactly : Exactly (lowest_free r < 64) (NoPlace r → ⊥)
   room_exactly = otherwise (⊎_elim (λ l. inr l) (λ g. inl g) (below (lowest_free r) 64)) (λ g l. omega arith) full_exactly

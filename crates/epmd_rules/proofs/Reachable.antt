@@ -18,7 +18,7 @@ use Rattle.names.specs.Node.{node_name}
 use Rattle.names.proofs.HeldLaws.{name_back}
 use Rattle.epmd_rules.specs.declared.registration.Registration.{Registration}
 use Rattle.epmd_rules.specs.State.{Registry}
-use Rattle.epmd_rules.specs.declared.answer.Making.TheVariants.{Ready, Refused}
+use Rattle.std.specs.Prelude.{Ok, Err}
 use Rattle.epmd_rules.specs.declared.refusal.Refusal.TheVariants.{ZeroCreation}
 use Rattle.epmd_rules.specs.declared.request.Request.TheVariants.{Alive2}
 use Rattle.epmd_rules.specs.Messages.{alive2_req}
@@ -64,8 +64,8 @@ place_free : PlaceSound free
 place_free =
     record {
       zero_if_free = λ e. refl;
-      created = λ e. let w : ◌≡◌ {A = ℕ} 0 1 = cc free_is_free in absurd (omega arith);
-      named = λ e. let w : ◌≡◌ {A = ℕ} 0 1 = cc free_is_free in absurd (omega arith);
+      created = λ e. cc free_is_free;
+      named = λ e. cc free_is_free;
       name_held = free_name;
       name_padded = free_named;
       extra_held = free_extra;
@@ -75,7 +75,7 @@ place_free =
 
 -- a place that is taken by one of two equal descriptions is not free
 not_taken : {p : Registration} → p ≡ free → is_free p ≡ false → ⊥
-not_taken {p} e f = let w : ◌≡◌ {A = ℕ} 0 1 = cc (ap is_free e, free_is_free) in absurd (omega arith)
+not_taken {p} e f = cc (ap is_free e, free_is_free)
 
 fresh_entry : (port next i : ℕ) → i < 64 → entry_at (fresh port next) i ≡ free
 unfolding entry_at fresh
@@ -107,7 +107,7 @@ fresh_sound port next o l h =
 
 -- ---- one more registration
 
-module _ (r : Registry) (c : ℕ) (frame : List ℕ) (given : ℕ) (a : examine_of frame given ≡ Alive2) where
+module _ (r : Registry) (c : ℕ) (frame : List ℕ) (given : ℕ) (a : examine_of frame given ≡ Ok Alive2) where
   new : Registration
   new = registration_of c r.next (body frame)
 
@@ -166,7 +166,7 @@ module _ (r : Registry) (c : ℕ) (frame : List ℕ) (given : ℕ) (a : examine_
   new_sound : Octets frame → 1 ≤ r.next → r.next ≤ 4294967295 → PlaceSound new
   new_sound o l h =
       record {
-        zero_if_free = λ e. let w : ◌≡◌ {A = ℕ} 0 1 = cc new_taken in absurd (omega arith);
+        zero_if_free = λ e. cc new_taken;
         created = λ e. (omega (arith, new_creation), omega (arith, new_creation));
         named = λ e. ap node_name new_name ∙ alive2_named frame given a;
         name_held = new_name_held;
@@ -311,7 +311,7 @@ module _ (r : Registry) (k : ℕ) (h : k < 64) (s : RegistrySound r) where
 
 -- ---- THE THEOREMS
 
-new_refused : (port first : ℕ) → first ≡ 0 → (new_of port first).making ≡ Refused ZeroCreation
+new_refused : (port first : ℕ) → first ≡ 0 → (new_of port first).making ≡ Err ZeroCreation
 unfolding new_of
 new_refused port first e = rw (eq-eqb first 0 e)
 
@@ -319,9 +319,9 @@ new_made : (port first : ℕ) → (first ≡ 0 → ⊥) → (new_of port first).
 unfolding new_of
 new_made port first e = rw (ne_eqb first 0 e)
 
-sound_made : (port first : ℕ) → port ≤ 65535 → first ≤ 4294967295 → (new_of port first).making ≡ Ready → RegistrySound (new_of port first).registry
+sound_made : (port first : ℕ) → port ≤ 65535 → first ≤ 4294967295 → (new_of port first).making ≡ Ok tt → RegistrySound (new_of port first).registry
 sound_made port first o h e =
-    let some : first ≡ 0 → ⊥ = λ (z : first ≡ 0). (let w : ◌≡◌ {A = ℕ} 0 1 = cc (new_refused port first z) in absurd (omega arith)) in
+    let some : first ≡ 0 → ⊥ = λ (z : first ≡ 0). (cc (new_refused port first z)) in
     subst RegistrySound (sym (new_made port first some)) (fresh_sound port first o (omega (arith, some)) h)
 
 pub always_sound : AlwaysSound
@@ -343,7 +343,7 @@ registered_found r c frame given reach a z =
     let n = new r c frame given a in
     let f = new_found r c frame given a s z in
     let e : (request_of r c frame given).registry ≡ filled r n =
-    ap (λ (o : Outcome). o.registry) (call_asked r c frame given Alive2 a ∙ alive2_fills r c (body frame) (result_of r c name) refl z)
+    ap (λ (o : Outcome). o.registry) (call_asked r c frame given (Ok Alive2) a ∙ alive2_fills r c (body frame) (result_of r c name) refl z)
     ∙ ap (filled r) (unnew r c frame given a) in
     ap (λ (x : Registry). port2_reply x name) e
     ∙ rw (f, lt-ltb (lowest_free r) 64 (result_admits r c name z).room)

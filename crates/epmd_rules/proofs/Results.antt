@@ -6,6 +6,7 @@ use mathlib.Core.List.{List, [], ◌∷◌}
 use native.Mathlib.Omega.{arith}
 use borrow.Author.Tests.{eqb-true, eqb-false, ne_eqb}
 use lib.Dec.{eqb, leb}
+use Rattle.std.specs.Prelude.{Ok}
 use lib.ListN.{length, get_or}
 use Rattle.wire.specs.Frame.{body}
 use Rattle.wire.specs.Layout.{int_at, run_at}
@@ -31,7 +32,7 @@ reply_tells highest result c h = by (leb 6 highest) refl where
   by true e = rw e (omega arith)
   by false e = rw e (omega arith)
 
-module _ (r : Registry) (c : ℕ) (frame : List ℕ) (given : ℕ) (a : examine_of frame given ≡ Alive2) where
+module _ (r : Registry) (c : ℕ) (frame : List ℕ) (given : ℕ) (a : examine_of frame given ≡ Ok Alive2) where
   abbrev name : List ℕ
   name = run_at alive2_req 6 (body frame)
 
@@ -48,10 +49,10 @@ module _ (r : Registry) (c : ℕ) (frame : List ℕ) (given : ℕ) (a : examine_
   new = registration_of c r.next (body frame)
 
   fails : (result ≡ 0 → ⊥) → outcome ≡ replied r (alive2_reply highest result 0)
-  fails h = call_asked r c frame given Alive2 a ∙ alive2_fails r c (body frame) result refl h
+  fails h = call_asked r c frame given (Ok Alive2) a ∙ alive2_fails r c (body frame) result refl h
 
   fills : result ≡ 0 → outcome ≡ replied (filled r new) (alive2_reply highest 0 r.next)
-  fills h = call_asked r c frame given Alive2 a ∙ alive2_fills r c (body frame) result refl h
+  fills h = call_asked r c frame given (Ok Alive2) a ∙ alive2_fills r c (body frame) result refl h
 
   -- the call tells Result
   told : result_told outcome ≡ result

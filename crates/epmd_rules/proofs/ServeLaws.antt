@@ -3,12 +3,14 @@ use Prim.Native.Nat.{ℕ, ◌≤◌, ◌<◌}
 use mathlib.Core.Path.{◌≡◌, sym, ap, subst}
 use mathlib.Core.Logic.{◌⊎◌, inl, inr}
 use mathlib.Core.List.{List}
+use Rattle.std.specs.Prelude.{Result}
 use native.Mathlib.Omega.{arith}
 use borrow.Author.Tests.{eq-eqb, ne_eqb, lt-ltb, le-ltb}
 use Rattle.wire.specs.Frame.{body}
 use Rattle.wire.specs.Layout.{int_at, run_at}
 use Rattle.epmd_rules.specs.State.{Registry}
 use Rattle.epmd_rules.specs.declared.request.Request.{Request}
+use Rattle.epmd_rules.specs.declared.refusal.Refusal.{Refusal}
 use Rattle.epmd_rules.specs.Messages.{alive2_req}
 use Rattle.epmd_rules.specs.Registry.{by_name, by_connection, lowest_free, filled}
 use Rattle.epmd_rules.specs.Requests.{examine_of}
@@ -17,7 +19,7 @@ use Rattle.epmd_rules.specs.Serve.{replied, result_of, registration_of, alive2_o
 use Rattle.epmd_rules.proofs.PlaceLaws.{below}
 
 -- a call is what its frame asks for
-pub call_asked : (r : Registry) (c : ℕ) (frame : List ℕ) (given : ℕ) (q : Request) → examine_of frame given ≡ q → request_of r c frame given ≡ outcome_of r c (body frame) q
+pub call_asked : (r : Registry) (c : ℕ) (frame : List ℕ) (given : ℕ) (q : Result Request Refusal) → examine_of frame given ≡ q → request_of r c frame given ≡ outcome_of r c (body frame) q
 unfolding request_of
 call_asked r c frame given q e = ap (outcome_of r c (body frame)) e
 

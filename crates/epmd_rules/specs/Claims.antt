@@ -1,5 +1,5 @@
 -- What is proved of the mapper beside its contracts. Each claim names the theorem in proofs/ that is its proof.
-use Rattle.std.specs.Prelude.{ℕ, ◌+◌, ◌≤◌, ◌<◌, ◌≡◌, Bool, true, false, cond, ◌&&◌, List, [], ◌∷◌, length, get_or, eqb, leb}
+use Rattle.std.specs.Prelude.{ℕ, ◌+◌, ◌≤◌, ◌<◌, ◌≡◌, Bool, true, false, cond, ◌&&◌, List, [], ◌∷◌, length, get_or, eqb, leb, Result, Ok, Err}
 use Rattle.wire.specs.Claims.{Octets}
 use Rattle.wire.specs.Frame.{framed, body}
 use Rattle.wire.specs.Layout.{int_at, run_at}
@@ -7,9 +7,9 @@ use Rattle.names.specs.Held.{name_of, name_bytes}
 use Rattle.names.specs.Node.{node_name}
 use Rattle.epmd_rules.specs.declared.registration.Registration.{Registration}
 use Rattle.epmd_rules.specs.State.{Registry}
-use Rattle.epmd_rules.specs.declared.answer.Making.TheVariants.{Ready}
 use Rattle.epmd_rules.specs.declared.request.Request.{Request}
-use Rattle.epmd_rules.specs.declared.request.Request.TheVariants.{Refused, Alive2, PortPlease2, Names}
+use Rattle.epmd_rules.specs.declared.request.Request.TheVariants.{Alive2, PortPlease2, Names}
+use Rattle.epmd_rules.specs.declared.refusal.Refusal.{Refusal}
 use Rattle.epmd_rules.specs.Messages.{alive2_req}
 use Rattle.epmd_rules.specs.Registration.{free, is_free, extra_of, extra_bytes}
 use Rattle.epmd_rules.specs.Registry.{new_of, entry_at, by_connection, lowest_free, stepped, close_of}
@@ -21,7 +21,7 @@ use Rattle.epmd_rules.specs.Answers.{numbers_of}
 -- ---- the registries that making and calls can give
 
 pub data Reachable : Registry → Type 0 where
-  made : (port first : ℕ) → port ≤ 65535 → first ≤ 4294967295 → (new_of port first).making ≡ Ready → Reachable (new_of port first).registry
+  made : (port first : ℕ) → port ≤ 65535 → first ≤ 4294967295 → (new_of port first).making ≡ Ok tt → Reachable (new_of port first).registry
   requested : (r : Registry) (connection : ℕ) (frame : List ℕ) (given : ℕ) → Octets frame → Reachable r → Reachable (request_of r connection frame given).registry
   closed : (r : Registry) (connection : ℕ) → Reachable r → Reachable (close_of r connection).registry
 
@@ -73,7 +73,7 @@ RefusalKeeps = (r : Registry) (c : ℕ) (frame : List ℕ) (given : ℕ) → Kee
 -- a registration that fails changes nothing, the next creation included (Calls.failure_keeps)
 abbrev pub FailureKeeps : Type 0
 FailureKeeps =
-    (r : Registry) (c : ℕ) (frame : List ℕ) (given : ℕ) → examine_of frame given ≡ Alive2
+    (r : Registry) (c : ℕ) (frame : List ℕ) (given : ℕ) → examine_of frame given ≡ Ok Alive2
     → (result_of r c (run_at alive2_req 6 (body frame)) ≡ 0 → ⊥) → (request_of r c frame given).registry ≡ r
 
 -- ---- ALIVE2's Result
@@ -135,13 +135,13 @@ pub record Alive2Tells (r : Registry) (c : ℕ) (name : List ℕ) (p : Registrat
 -- changes (Results.result_tells)
 abbrev pub ResultTells : Type 0
 ResultTells =
-    (r : Registry) (c : ℕ) (frame : List ℕ) (given : ℕ) → Reachable r → examine_of frame given ≡ Alive2
+    (r : Registry) (c : ℕ) (frame : List ℕ) (given : ℕ) → Reachable r → examine_of frame given ≡ Ok Alive2
     → Alive2Tells r c (run_at alive2_req 6 (body frame)) (registration_of c r.next (body frame)) (request_of r c frame given)
 
 -- P2: "The creation field is 0 with each", in both replies (Results.creation_field_zero)
 abbrev pub CreationFieldZero : Type 0
 CreationFieldZero =
-    (r : Registry) (c : ℕ) (frame : List ℕ) (given : ℕ) → examine_of frame given ≡ Alive2
+    (r : Registry) (c : ℕ) (frame : List ℕ) (given : ℕ) → examine_of frame given ≡ Ok Alive2
     → (result_told (request_of r c frame given) ≡ 0 → ⊥)
     → (request_of r c frame given).bytes
     ≡ cond (leb 6 (int_at alive2_req 4 (body frame)))
@@ -166,11 +166,11 @@ abbrev pub after : Registry → Call → Registry
 after r (request c frame given) = (request_of r c frame given).registry
 after r (close c) = (close_of r c).registry
 
-abbrev pub is_alive2 : Request → Bool
-is_alive2 (Refused n) = false
-is_alive2 Alive2 = true
-is_alive2 PortPlease2 = false
-is_alive2 Names = false
+abbrev pub is_alive2 : Result Request Refusal → Bool
+is_alive2 (Err n) = false
+is_alive2 (Ok Alive2) = true
+is_alive2 (Ok PortPlease2) = false
+is_alive2 (Ok Names) = false
 
 abbrev pub registers : Registry → Call → Bool
 registers r (request c frame given) = is_alive2 (examine_of frame given) && eqb (result_of r c (run_at alive2_req 6 (body frame))) 0
@@ -208,7 +208,7 @@ CallFinds =
 -- what is asked for by name is what was registered under it (Reachable.registered_found)
 abbrev pub RegisteredFound : Type 0
 RegisteredFound =
-    (r : Registry) (c : ℕ) (frame : List ℕ) (given : ℕ) → Reachable r → examine_of frame given ≡ Alive2
+    (r : Registry) (c : ℕ) (frame : List ℕ) (given : ℕ) → Reachable r → examine_of frame given ≡ Ok Alive2
     → result_of r c (run_at alive2_req 6 (body frame)) ≡ 0
     → port2_reply (request_of r c frame given).registry (run_at alive2_req 6 (body frame)) ≡ port2_found (registration_of c r.next (body frame))
 

@@ -1,13 +1,10 @@
 -- 01, The mapper. "A registry holds its own port number (0 to 65,535), the next creation (1 to 4,294,967,295, given at the start; 0 is refused
 -- with 17) and 64 places."
-use Rattle.std.specs.Prelude.{ℕ, ◌+◌, true, false, cond, List, get_or, set, replicate, eqb, ltb}
+use Rattle.std.specs.Prelude.{ℕ, ◌+◌, true, false, cond, List, get_or, set, replicate, eqb, ltb, Ok, Err}
 use Rattle.wire.specs.Lookup.{first_at}
 use Rattle.epmd_rules.specs.declared.refusal.Refusal.TheVariants.{ZeroCreation}
 use Rattle.epmd_rules.specs.declared.registration.Registration.{Registration}
-use Rattle.epmd_rules.specs.State.{Registry}
-use Rattle.epmd_rules.specs.declared.answer.Making.TheVariants.{Ready, Refused}
-use Rattle.epmd_rules.specs.State.{Made}
-use Rattle.epmd_rules.specs.State.{Closed}
+use Rattle.epmd_rules.specs.State.{Registry, Made, Closed}
 use Rattle.epmd_rules.specs.Registration.{free, is_free, has_name, has_connection}
 
 -- ---- making
@@ -19,8 +16,8 @@ fresh port next = record { port = port; next = next; registrations = replicate 6
 unfoldable pub new_of : ℕ → ℕ → Made
 new_of port first =
     cond (eqb first 0)
-    (record { making = Refused ZeroCreation; registry = fresh 0 1 })
-    (record { making = Ready; registry = fresh port first })
+    (record { making = Err ZeroCreation; registry = fresh 0 1 })
+    (record { making = Ok tt; registry = fresh port first })
 
 -- ---- look-up: an index below 64, or 64
 

@@ -1,12 +1,12 @@
 -- What a frame asks for, or the number with which it is refused.
-use Rattle.std.specs.Prelude.{ℕ, ◌+◌, ◌*◌, Bool, true, cond, ◌&&◌, ◌||◌, not, List, [], ◌∷◌, length, eqb, leb}
+use Rattle.std.specs.Prelude.{ℕ, ◌+◌, ◌*◌, Bool, true, cond, ◌&&◌, ◌||◌, not, List, [], ◌∷◌, length, eqb, leb, Result, Ok, Err}
 use Rattle.wire.specs.Frame.{is_frame, body}
 use Rattle.wire.specs.Layout.{extent, behind, int_at, run_at}
 use Rattle.names.specs.Node.{node_name}
 use Rattle.epmd_rules.specs.declared.refusal.Refusal.{Refusal}
 use Rattle.epmd_rules.specs.declared.refusal.Refusal.TheVariants.{OutputTooShort, NotAFrame, UnknownTag, BadLength, BadName, BadVersions, NotServed, ZeroCreation}
 use Rattle.epmd_rules.specs.declared.request.Request.{Request}
-use Rattle.epmd_rules.specs.declared.request.Request.TheVariants.{Refused, Alive2, PortPlease2, Names}
+use Rattle.epmd_rules.specs.declared.request.Request.TheVariants.{Alive2, PortPlease2, Names}
 use Rattle.epmd_rules.specs.Messages.{alive2_req, port_please2_req, names_req}
 
 -- 01, Numbers that a refused caller sees
@@ -91,8 +91,8 @@ abbrev pub checks : List ℕ → ℕ → List (Check Refusal)
 checks frame given = (leb room given else OutputTooShort) ∷ (is_frame frame else NotAFrame) ∷ body_checks (body frame)
 
 -- what the body of a frame asks for, and a frame for whose reply so many bytes are given
-unfoldable pub examine_body : List ℕ → Request
-examine_body b = first_refusal Refused (body_checks b) (by_tag (tag b) Alive2 PortPlease2 Names)
+unfoldable pub examine_body : List ℕ → Result Request Refusal
+examine_body b = first_refusal Err (body_checks b) (Ok (by_tag (tag b) Alive2 PortPlease2 Names))
 
-unfoldable pub examine_of : List ℕ → ℕ → Request
-examine_of frame given = first_refusal Refused (checks frame given) (by_tag (tag (body frame)) Alive2 PortPlease2 Names)
+unfoldable pub examine_of : List ℕ → ℕ → Result Request Refusal
+examine_of frame given = first_refusal Err (checks frame given) (Ok (by_tag (tag (body frame)) Alive2 PortPlease2 Names))

@@ -1,5 +1,5 @@
 -- One call of the mapper: what it tells, the registry after it, and the bytes that it writes.
-use Rattle.std.specs.Prelude.{ℕ, ◌≤◌, ◌≡◌, cond, List, [], length, eqb, ltb}
+use Rattle.std.specs.Prelude.{ℕ, ◌≤◌, ◌≡◌, cond, List, [], length, eqb, ltb, Result, Ok, Err}
 use Rattle.wire.specs.Frame.{body}
 use Rattle.wire.specs.Layout.{extent, behind, int_at, run_at}
 use Rattle.names.specs.Held.{name_of}
@@ -8,9 +8,6 @@ use Rattle.epmd_rules.specs.State.{Registry}
 use Rattle.epmd_rules.specs.declared.refusal.Refusal.{Refusal}
 use Rattle.epmd_rules.specs.declared.request.Request.{Request}
 use Rattle.epmd_rules.specs.declared.request.Request.TheVariants.{Alive2, PortPlease2, Names}
-use Rattle.epmd_rules.specs.declared.request.Request.TheVariants as asked
-use Rattle.epmd_rules.specs.declared.answer.Answer.{Answer}
-use Rattle.epmd_rules.specs.declared.answer.Answer.TheVariants.{Written, Refused}
 use Rattle.epmd_rules.specs.State.{Served}
 use Rattle.epmd_rules.specs.Messages.{alive2_req, port_please2_req}
 use Rattle.epmd_rules.specs.Registration.{extra_of}
@@ -26,7 +23,7 @@ pub record Alive2Body (b : List ℕ) : Type 0 where
 
 pub record Outcome : Type 0 where
   pub registry : Registry
-  pub answer : Answer
+  pub answer : Result ℕ Refusal
   pub bytes : List ℕ
 
 -- what the call hands back
@@ -35,11 +32,11 @@ told o = record { registry = o.registry; answer = o.answer }
 
 -- "Replies are written from the first byte and their length is told"
 abbrev pub replied : Registry → List ℕ → Outcome
-replied r bs = record { registry = r; answer = Written (length bs); bytes = bs }
+replied r bs = record { registry = r; answer = Ok (length bs); bytes = bs }
 
 -- "Every refusal writes no output. "Keep" changes nothing"
 abbrev pub refused : Registry → Refusal → Outcome
-refused r n = record { registry = r; answer = Refused n; bytes = [] }
+refused r n = record { registry = r; answer = Err n; bytes = [] }
 
 -- P2: "Make ALIVE2's Result 1 for a name in use, 2 for a connection that has a registration, 3 for no place, tested in that order." 01: "Otherwise
 -- Result is 0"
@@ -78,11 +75,11 @@ unfoldable pub names_of : Registry → Outcome
 names_of r = replied r (names_reply r)
 
 -- the call: connection c lends a frame, and an output of so many bytes
-abbrev pub outcome_of : Registry → ℕ → List ℕ → Request → Outcome
-outcome_of r c b (asked.Refused n) = refused r n
-outcome_of r c b Alive2 = alive2_of r c b
-outcome_of r c b PortPlease2 = port2_of r b
-outcome_of r c b Names = names_of r
+abbrev pub outcome_of : Registry → ℕ → List ℕ → Result Request Refusal → Outcome
+outcome_of r c b (Err n) = refused r n
+outcome_of r c b (Ok Alive2) = alive2_of r c b
+outcome_of r c b (Ok PortPlease2) = port2_of r b
+outcome_of r c b (Ok Names) = names_of r
 
 unfoldable pub request_of : Registry → ℕ → List ℕ → ℕ → Outcome
 request_of r c frame given = outcome_of r c (body frame) (examine_of frame given)

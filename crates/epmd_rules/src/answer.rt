@@ -3,53 +3,37 @@ ghost use Rattle.epmd_rules.specs.Answers as spec;
 
 use crate::refusal::Refusal;
 
-// Whether a registry was made.
-#[derive(Clone, Copy)]
-pub enum Making {
-    Ready,
-    Refused(Refusal),
-}
-
-// What a call tells: the count written, or the refusal.
-#[derive(Clone, Copy)]
-pub enum Answer {
-    Written(usize),
-    Refused(Refusal),
-}
-
-// 01's number and values for an answer, for a host that cannot hold the enum: 0 is no refusal.
+// 01's number and values for an answer, for a host that cannot hold a `Result`: 0 is no refusal.
 #[repr(C)]
-#[derive(Clone, Copy)]
+#[derive(Clone, Copy, Debug, PartialEq, Eq)]
 pub struct Numbers {
     pub refusal: u32,
     pub written: usize,
 }
 
-impl Making {
-    // The refusal's number, or 0.
-    pub fn number(self) -> u32
-        ensures { result ≡ spec.making_number self }
-    {
-        match self {
-            Making::Ready => 0,
-            Making::Refused(why) => why.number(),
-        }
-    }
-}
+impl From<Result<usize, Refusal>> for Numbers {
+    ghost from_gives = { λ answer numbers. numbers ≡ spec.numbers_of answer };
 
-impl Answer {
-    pub fn numbers(self) -> Numbers
-        ensures { result ≡ spec.numbers_of self }
-    {
-        match self {
-            Answer::Written(count) => Numbers {
+    fn from(answer: Result<usize, Refusal>) -> Numbers {
+        match answer {
+            Ok(written) => Numbers {
                 refusal: 0,
-                written: count,
+                written,
             },
-            Answer::Refused(why) => Numbers {
+            Err(why) => Numbers {
                 refusal: why.number(),
                 written: 0,
             },
         }
+    }
+}
+
+// The number for whether a registry was made: the refusal's, or 0. C takes it (`bks_registry_new`).
+pub fn making_number(made: Result<(), Refusal>) -> u32
+    ensures { result ≡ spec.making_number made }
+{
+    match made {
+        Ok(()) => 0,
+        Err(why) => why.number(),
     }
 }

@@ -1,17 +1,17 @@
 ghost use Rattle.std.specs.Prelude.{◌≡◌};
 ghost use Rattle.epmd_rules.specs.Requests.{refusal_number};
 
-// Why a call is refused (01, Numbers that a refused caller sees).
-#[derive(Clone, Copy)]
+// Why a call is refused, each with its number (01, Numbers that a refused caller sees).
+#[derive(Clone, Copy, Debug, PartialEq, Eq)]
 pub enum Refusal {
-    OutputTooShort,
-    NotAFrame,
-    UnknownTag,
-    BadLength,
-    BadName,
-    BadVersions,
-    NotServed,
-    ZeroCreation,
+    OutputTooShort = 1,
+    NotAFrame = 3,
+    UnknownTag = 4,
+    BadLength = 5,
+    BadName = 6,
+    BadVersions = 7,
+    NotServed = 8,
+    ZeroCreation = 17,
 }
 
 impl Refusal {
@@ -19,15 +19,6 @@ impl Refusal {
     pub fn number(self) -> u32
         ensures { result ≡ refusal_number self }
     {
-        match self {
-            Refusal::OutputTooShort => 1,
-            Refusal::NotAFrame => 3,
-            Refusal::UnknownTag => 4,
-            Refusal::BadLength => 5,
-            Refusal::BadName => 6,
-            Refusal::BadVersions => 7,
-            Refusal::NotServed => 8,
-            Refusal::ZeroCreation => 17,
-        }
+        self as u32
     }
 }

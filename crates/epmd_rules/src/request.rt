@@ -1,9 +1,6 @@
-use crate::refusal::Refusal;
-
 // What a frame asks for.
-#[derive(Clone, Copy)]
+#[derive(Clone, Copy, Debug, PartialEq, Eq)]
 pub enum Request {
-    Refused(Refusal),
     Alive2,
     PortPlease2,
     Names,

@@ -1,14 +1,19 @@
 -- Laws of a registry that lies in bytes: a registration is read where it lies, and overwriting it changes it alone. Assumes nothing.
 use Prim.Native.Nat.{ℕ, zero, suc, ◌+◌, ◌-◌, ◌*◌, ◌^◌, ◌≤◌, ◌<◌}
 use mathlib.Core.Path.{◌≡◌, refl, sym, ◌∙◌, ap, ap₂}
-use mathlib.Core.Bool.{Bool, true, false, cond, ◌&&◌, not}
+use mathlib.Core.Bool.{Bool, true, false, cond, ◌&&◌, not, and-false}
 use mathlib.Core.List.{List, [], ◌∷◌, ◌++◌, append-nil, append_assoc}
 use native.Mathlib.Omega.{arith}
-use borrow.Author.Tests.{eq-eqb, ne_eqb, eqb-false}
-use lib.Dec.{eqb}
+use borrow.Author.Tests.{eqb-false, lt-ltb, le-ltb}
+use lib.Dec.{eqb, ltb}
 use lib.ListN.{length, length-append, length-drop, get_or, set, take, drop, replicate}
-use lib.Seq.{length-take-le, take_all, drop-drop}
-use Rattle.wire.specs.Run.{part, same_bytes}
+use lib.Seq.{length-take-le, take_all, drop-drop, get_or-take}
+use Rattle.std.specs.Prelude.{Some, None, map}
+use Rattle.std.specs.List.{position, position_or_len}
+use Rattle.std.specs.Simd.{first_chunks}
+use Rattle.std.proofs.lemmas.List.{get_or-map, get_or_past}
+use Rattle.std.proofs.lemmas.Grind.{get_or_after_one}
+use Rattle.wire.specs.Run.{part}
 use Rattle.wire.specs.Number.{be, num, be_at}
 use Rattle.wire.specs.Output.{overwrite}
 use Rattle.wire.specs.Table.{table}
@@ -18,14 +23,14 @@ use Rattle.wire.proofs.NumberLaws.{be_length, be_at_byte}
 use Rattle.wire.proofs.LayoutLaws.{layout_back, be_at_behind}
 use Rattle.wire.proofs.LookupLaws.{first_skip, first_hit, first_end, first_within}
 use Rattle.wire.proofs.OutputLaws.{overwrite_join}
-use Rattle.wire.proofs.TableLaws.{take_within, part_before, table_count, table_at, table_after, table_set, table_zeros}
+use Rattle.wire.proofs.TableLaws.{take_within, part_before, table_count, table_after, table_set, table_zeros}
 use Rattle.wire.proofs.RunLaws.{part_length, same_length_ne, same_false}
 use Rattle.names.specs.Held.{name_of, name_bytes}
 use Rattle.epmd_rules.specs.State.{Registry}
 use Rattle.epmd_rules.specs.declared.registration.Registration.{Registration}
 use Rattle.epmd_rules.specs.Registration.{free, is_free, has_name, extra_of, extra_bytes}
 use Rattle.epmd_rules.specs.Registry.{entry_at}
-use Rattle.epmd_state.specs.Bytes.{head_l, tail_l, entry_l, places, head_size, entry_size, size, tail_values, entry_values, entry_bytes, entry_from, entry_by, registry_of, placed, headed, last_of, is_like}
+use Rattle.epmd_state.specs.Bytes.{head_l, tail_l, entry_l, places, head_size, entry_size, size, tail_values, entry_values, entry_bytes, entry_from, entry_by, records_in, registry_of, placed, headed, found, last_of, is_like}
 
 abbrev entries : List ℕ → List Registration
 entries b = table entry_by entry_size places head_size b
@@ -33,11 +38,6 @@ entries b = table entry_by entry_size places head_size b
 pub here_long : (b : List ℕ) → length (registry_of b).registrations ≡ places
 unfolding registry_of
 here_long b = table_count entry_by entry_size places head_size b
-
--- a registration is read where it lies
-pub entry_here : (b : List ℕ) (i : ℕ) → i < places → entry_by (part (head_size + i * entry_size) entry_size b) ≡ entry_at (registry_of b) i
-unfolding registry_of entry_at
-entry_here b i h = sym (table_at entry_by entry_size places head_size i (head_size + i * entry_size) b free h refl)
 
 -- what is written of a registration is read back
 pub entry_back : (p : Registration) → Fits entry_l (entry_values p) → entry_by (entry_bytes p) ≡ p
@@ -71,14 +71,9 @@ unfolding entry_by be_at part free name_of extra_of
 none_here = refl
 
 -- past the last place there is none
-past_end : (l : List Registration) (j : ℕ) (d : Registration) → length l ≤ j → get_or l j d ≡ d
-past_end [] j d h = refl
-past_end (x ∷ l) zero d h = absurd (omega arith)
-past_end (x ∷ l) (suc j) d h = past_end l j d (omega arith)
-
 pub past_here : (b : List ℕ) (i : ℕ) → places ≤ i → entry_at (registry_of b) i ≡ free
 unfolding entry_at
-past_here b i h = past_end (registry_of b).registrations i free (omega (arith, here_long b))
+past_here b i h = get_or_past (registry_of b).registrations i free (omega (arith, here_long b))
 
 pub clear_here : (b : List ℕ) (i : ℕ) → i < places → length b ≡ size → registry_of (overwrite b (head_size + i * entry_size) (replicate entry_size 0)) ≡ placed (registry_of b) i free
 clear_here b i h l = set_here b (replicate entry_size 0) i free h l refl none_here
@@ -140,20 +135,13 @@ none_last : (b : List ℕ) → last_of (part 1 0 b) ≡ 0
 unfolding part
 none_last b = refl
 
-get_d_front : (l : List ℕ) (n : ℕ) → get_or (take (suc n) l) n 0 ≡ get_or l n 0
-get_d_front [] n = refl
-get_d_front (x ∷ l) zero = refl
-get_d_front (x ∷ l) (suc n) = get_d_front l n
-
-get_d_behind : (l : List ℕ) (n : ℕ) → get_or (drop 1 l) n 0 ≡ get_or l (suc n) 0
-get_d_behind [] n = refl
-get_d_behind (x ∷ l) n = refl
-
 part_last : (b : List ℕ) (n : ℕ) → get_or (part 1 (suc n) b) (suc n - 1) 0 ≡ get_or b (suc n) 0
 unfolding part
 part_last b n =
     let k : suc n - 1 ≡ n = omega arith in
-    ap (λ (j : ℕ). get_or (take (suc n) (drop 1 b)) j 0) k ∙ get_d_front (drop 1 b) n ∙ get_d_behind b n
+    let m : 1 + n ≡ suc n = omega arith in
+    ap (λ (j : ℕ). get_or (take (suc n) (drop 1 b)) j 0) k ∙ get_or-take (suc n) (drop 1 b) n 0 (omega arith)
+    ∙ get_or_after_one b n 0 ∙ ap (λ (j : ℕ). get_or b j 0) m
 
 pub extra_here : (b : List ℕ) (n : ℕ) → n ≡ be_at 1 256 b → n ≤ 128 → extra_bytes (entry_by b).extra ≡ part 257 n b
 unfolding entry_by extra_bytes
@@ -168,28 +156,57 @@ extra_whole b n e h l =
 -- ---- whose registration it is
 
 module _ (name : List ℕ) (p : Registration) where
-  and_false : (b : Bool) → b && false ≡ false
-  and_false true = refl
-  and_false false = refl
-
   pub other_length : (length (name_bytes p.name) ≡ length name → ⊥) → false ≡ has_name name p
   unfolding has_name
-  other_length h = sym (ap (λ (t : Bool). not (is_free p) && t) (same_length_ne (name_bytes p.name) name h) ∙ and_false (not (is_free p)))
+  other_length h = sym (ap (λ (t : Bool). not (is_free p) && t) (same_length_ne (name_bytes p.name) name h) ∙ and-false (not (is_free p)))
 
   pub other_last : (last_of (name_bytes p.name) ≡ last_of name → ⊥) → false ≡ has_name name p
   unfolding has_name
   other_last h =
-      sym (ap (λ (t : Bool). not (is_free p) && t) (same_false (name_bytes p.name) name (λ e. h (ap last_of e))) ∙ and_false (not (is_free p)))
+      sym (ap (λ (t : Bool). not (is_free p) && t) (same_false (name_bytes p.name) name (λ e. h (ap last_of e))) ∙ and-false (not (is_free p)))
 
-  pub none_held : length (name_bytes p.name) ≡ 0 → false ≡ has_name name p
-  unfolding has_name is_free
-  none_held h = rw (eq-eqb (length (name_bytes p.name)) 0 h)
+-- ---- look-up over the records, by any test
 
-  pub by_bytes : (length (name_bytes p.name) ≡ 0 → ⊥) → same_bytes (name_bytes p.name) name ≡ has_name name p
-  unfolding has_name is_free
-  by_bytes h = rw (ne_eqb (length (name_bytes p.name)) 0 h)
+-- a table is its records, each read
+chunks_read : (n w o : ℕ) (b : List ℕ) → map entry_by (first_chunks w n (drop o b)) ≡ table entry_by w n o b
+unfolding table part
+chunks_read zero w o b = refl
+chunks_read (suc n) w o b =
+    ap (λ (l : List Registration). entry_by (take w (drop o b)) ∷ l)
+    (ap (λ (x : List ℕ). map entry_by (first_chunks w n x)) (drop-drop w o b) ∙ chunks_read n w (o + w) b)
 
--- ---- look-up: what is known before place i, over any test; t is what is sought
+records_here : (b : List ℕ) → map entry_by (records_in b) ≡ (registry_of b).registrations
+unfolding registry_of
+records_here b = chunks_read places entry_size head_size b
+
+pub record_here : (b : List ℕ) (i : ℕ) → i < length (records_in b) → entry_by (get_or (records_in b) i []) ≡ entry_at (registry_of b) i
+unfolding entry_at
+record_here b i h = sym (get_or-map entry_by (records_in b) i [] free h) ∙ ap (λ (l : List Registration). get_or l i free) (records_here b)
+
+first_read : (p : Registration → Bool) (rs : List (List ℕ)) → position_or_len (λ (r : List ℕ). p (entry_by r)) rs ≡ first_at p (map entry_by rs)
+unfolding first_at
+first_read p [] = refl
+first_read p (r ∷ rs) = by (first_read p rs) (p (entry_by r)) where
+  by : {x y : ℕ} → x ≡ y → (t : Bool) → cond (not t) (1 + x) 0 ≡ cond t 0 (suc y)
+  by e true = refl
+  by e false = omega (arith, e)
+
+pub found_first : (p : Registration → Bool) (b : List ℕ) (rs : List (List ℕ)) → rs ≡ records_in b → length rs ≡ places
+    → position (λ (r : List ℕ). p (entry_by r)) rs ≡ found (first_at p (registry_of b).registrations)
+found_first p b rs e l =
+    let f : position_or_len (λ (r : List ℕ). p (entry_by r)) rs ≡ first_at p (registry_of b).registrations =
+    first_read p rs ∙ ap (λ (x : List (List ℕ)). first_at p (map entry_by x)) e ∙ ap (first_at p) (records_here b) in
+    ap₂ (λ (i n : ℕ). cond (ltb i n) (Some i) None) f l
+
+-- ---- a place that was found, and none
+
+pub some_found : (n at : ℕ) → n ≡ at → at < places → Some at ≡ found n
+some_found n at e h = rw (e, lt-ltb at places h) refl
+
+pub none_found : (n : ℕ) → places ≤ n → None ≡ found n
+none_found n h = rw (le-ltb n places h) refl
+
+-- ---- look-up by name, place by place: what is known before place i, over any test; t is what is sought
 
 abbrev left : (b : List ℕ) (i : ℕ) → List Registration
 left b i = drop i (registry_of b).registrations
@@ -253,10 +270,6 @@ leap name b t i j last z s f =
       within = omega (arith, e, s.within, first_within (is_like (length name) (last_of name)) (left b i), length-drop i (registry_of b).registrations, here_long b);
       passed = omega (arith, s.passed, e, pass_unlike name (left b i), ap (first_at (has_name name)) (drop-drop k i (registry_of b).registrations ∙ ap (left b) (sym e)));
     }
-
-pub empty_last : (l : List ℕ) → length l ≡ 0 → last_of l ≡ 0
-empty_last [] e = refl
-empty_last (x ∷ l) e = absurd (omega (arith, e))
 
 -- the last byte of a record's name is where its length says
 pub last_here : (b : List ℕ) (n : ℕ) → n ≡ be_at 1 0 b → n ≤ 255 → length b ≡ entry_size → last_of (name_bytes (entry_by b).name) ≡ be_at 1 n b

@@ -1,14 +1,13 @@
 -- A registry as it lies in bytes that a host lends: its own port and next creation, and 64 records. Sizes follow from the layouts.
-use Rattle.std.specs.Prelude.{ℕ, ◌+◌, ◌-◌, ◌*◌, ◌≡◌, Bool, ◌&&◌, List, [], ◌∷◌, ◌++◌, length, get_or, set, eqb}
+use Rattle.std.specs.Prelude.{ℕ, ◌+◌, ◌-◌, ◌*◌, ◌≡◌, Bool, cond, ◌&&◌, Option, Some, None, Result, Ok, Err, List, [], ◌∷◌, ◌++◌, length, get_or, drop, set, eqb, ltb}
+use Rattle.std.specs.Simd.{first_chunks}
 use Rattle.wire.specs.Table.{table, table_bytes}
 use Rattle.wire.specs.Output.{written}
 use Rattle.wire.specs.Layout.{number, bytes, Layout, Value, int, run, encode, decode, width, int_of, run_of, int_at}
 use Rattle.names.specs.Held.{name_bytes}
 use Rattle.epmd_rules.specs.State.{Registry, Made, Closed}
 use Rattle.epmd_rules.specs.declared.registration.Registration.{Registration}
-use Rattle.epmd_rules.specs.declared.answer.Making.{Making}
-use Rattle.epmd_rules.specs.declared.answer.Making.TheVariants.{Ready, Refused}
-use Rattle.epmd_rules.specs.declared.answer.Answer.{Answer}
+use Rattle.epmd_rules.specs.declared.refusal.Refusal.{Refusal}
 use Rattle.epmd_rules.specs.Serve.{Outcome}
 
 -- ---- layouts
@@ -97,6 +96,10 @@ entry_by c = entry_from (decode entry_l c)
 unfoldable pub registry_of : List ℕ → Registry
 registry_of b = record { port = int_at head_l 0 b; next = int_at head_l 1 b; registrations = table entry_by entry_size places head_size b }
 
+-- its records, each as the bytes that it is
+abbrev pub records_in : List ℕ → List (List ℕ)
+records_in b = first_chunks entry_size places (drop head_size b)
+
 -- and the other way: the bytes of a registry
 abbrev pub state_bytes : Registry → List ℕ
 state_bytes r = encode head_l (int r.port ∷ int r.next ∷ []) ++ table_bytes entry_bytes r.registrations
@@ -104,17 +107,17 @@ state_bytes r = encode head_l (int r.port ∷ int r.next ∷ []) ++ table_bytes 
 -- ---- what a call does with them
 
 -- the call comes to this outcome: it tells its answer, leaves its registry in the state, and writes its bytes at the front of the output
-pub record Does (o : Outcome) (told : Answer) (state out out' : List ℕ) : Type 0 where
+pub record Does (o : Outcome) (told : Result ℕ Refusal) (state out out' : List ℕ) : Type 0 where
   pub answer : told ≡ o.answer
   pub registry : registry_of state ≡ o.registry
   pub output : out' ≡ written o.bytes out
 
 -- where making refuses, nothing is made
-abbrev pub if_made : Making → Registry → Registry → Registry
-if_made Ready made kept = made
-if_made (Refused r) made kept = kept
+abbrev pub if_made : Result Unit Refusal → Registry → Registry → Registry
+if_made (Ok _) made kept = made
+if_made (Err _) made kept = kept
 
-pub record Makes (m : Made) (told : Making) (state state' : List ℕ) : Type 0 where
+pub record Makes (m : Made) (told : Result Unit Refusal) (state state' : List ℕ) : Type 0 where
   pub answer : told ≡ m.making
   pub registry : registry_of state' ≡ if_made told m.registry (registry_of state)
 
@@ -132,7 +135,12 @@ placed r i p = record { port = r.port; next = r.next; registrations = set r.regi
 abbrev pub headed : ℕ → ℕ → Registry → Registry
 headed p n r = record { port = p; next = n; registrations = r.registrations }
 
--- ---- look-up by name: what is seen first of a place, the length of its name and its last byte
+-- ---- look-up: an index below 64, or none
+
+abbrev pub found : ℕ → Option ℕ
+found n = cond (ltb n places) (Some n) None
+
+-- by name: what is seen first of a place, the length of its name and its last byte
 
 abbrev pub last_of : List ℕ → ℕ
 last_of l = get_or l (length l - 1) 0

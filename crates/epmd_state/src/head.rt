@@ -1,34 +1,33 @@
 // The registry's own port and next creation.
-ghost use Rattle.std.specs.Prelude.{◌≡◌, length};
-ghost use Rattle.epmd_state.specs.Bytes.{size, registry_of, headed};
+ghost use Rattle.std.specs.Prelude.{◌≡◌};
+ghost use Rattle.epmd_state.specs.Bytes.{registry_of, headed};
 
-use crate::layout::{NEXT, PORT};
+use crate::layout::{NEXT, PORT, SIZE};
 
-pub fn port(state: &[u8]) -> u16
-    requires { length state.now ≡ size }
+#[tactic(auto, unfolding(crate::specs::Bytes::registry_of))]
+pub fn port(state: &[u8; SIZE]) -> u16
     ensures { result ≡ (registry_of state.now).port }
 {
-    wire::get16(state, PORT)
+    wire::get::<u16>(state, PORT)
 }
 
-pub fn next(state: &[u8]) -> u32
-    requires { length state.now ≡ size }
+#[tactic(auto, unfolding(crate::specs::Bytes::registry_of))]
+pub fn next(state: &[u8; SIZE]) -> u32
     ensures { result ≡ (registry_of state.now).next }
 {
-    wire::get32(state, NEXT)
+    wire::get::<u32>(state, NEXT)
 }
 
-pub fn put_next(state: &mut [u8], next: u32)
-    requires { length state.old ≡ size }
+#[tactic(auto, using(crate::proofs::BytesLaws::next_here))]
+pub fn put_next(state: &mut [u8; SIZE], next: u32)
     ensures { registry_of state.new ≡ headed (registry_of state.old).port next (registry_of state.old) }
 {
-    wire::put32(state, NEXT, next);
+    wire::put::<u32>(state, NEXT, next);
 }
 
-pub fn put_head(state: &mut [u8], port: u16, next: u32)
-    requires { length state.old ≡ size }
+pub fn put_head(state: &mut [u8; SIZE], port: u16, next: u32)
     ensures { registry_of state.new ≡ headed port next (registry_of state.old) }
 {
-    wire::put16(state, PORT, port);
-    wire::put32(state, NEXT, next);
+    wire::put::<u16>(state, PORT, port);
+    wire::put::<u32>(state, NEXT, next);
 }

@@ -34,6 +34,9 @@ pub(crate) const CREATION: usize = CONNECTION + 4;
 
 pub(crate) const RECORD: usize = CREATION + 4;
 
+// A record where it lies.
+pub type Record = [u8; RECORD];
+
 pub const PLACES: usize = 64;
 
 pub const SIZE: usize = RECORDS + PLACES * RECORD;

@@ -8,8 +8,9 @@ ghost use Rattle.handshake_rules.specs.Calls.{new_tests, new_of, start_of, arriv
 ghost use Rattle.handshake_state.specs.Bytes.{endpoint_of, Makes, Tells, Does};
 
 use handshake_messages::recv::check_flags;
-use handshake_rules::endpoint::{Answer, Making, Slot};
-use handshake_rules::refusal::{Check, Refusal};
+use handshake_rules::endpoint::{Answer, Slot};
+use handshake_rules::node::Node;
+use handshake_rules::refusal::Refusal;
 use handshake_state::SIZE;
 use handshake_state::bytes::put_own;
 use names::Name;
@@ -18,45 +19,48 @@ use names::Name;
 pub const ROOM: usize = 300;
 
 // An endpoint's own name, then its flags.
-fn check_own(name: &[u8], flags: u64) -> Check
+fn check_own(name: &[u8], flags: u64) -> Result<(), Refusal>
     ensures { result ≡ checked (new_tests name.now flags) }
 {
     if !names::is_full_name(name) {
-        return Check::Refuse(Refusal::BadName);
+        return Err(Refusal::BadName);
     }
     check_flags(flags)
 }
 
 // Makes an endpoint.
-pub fn make(state: &mut [u8; SIZE], name: &[u8], flags: u64, creation: u32) -> Making
+pub fn make(state: &mut [u8; SIZE], name: &[u8], flags: u64, creation: u32) -> Result<(), Refusal>
     ensures { Makes (new_of name.now flags creation) result state.old state.new }
 {
-    match check_own(name, flags) {
-        Check::Refuse(why) => Making::NotMade(why),
-        Check::Pass => {
-            *state = [0u8; SIZE];
-            put_own(state, name, flags, creation);
-            Making::Ready
-        }
-    }
+    check_own(name, flags)?;
+    *state = [0u8; SIZE];
+    let node = Node {
+        name,
+        flags,
+        creation,
+    };
+    put_own(state, node);
+    Ok(())
 }
 
+// Each call below is stated here, where a host looks for it, and done in a module of its own: one place for both would be no plainer.
+
 // Starts towards a full name: takes the lowest free slot and writes the name message.
-pub fn start(state: &mut [u8; SIZE], name: &[u8], out: &mut [u8]) -> Answer
+pub fn start(state: &mut [u8; SIZE], name: &[u8], out: &mut [u8]) -> Result<Answer, Refusal>
     ensures { Does (start_of (endpoint_of state.old) name.now (length out.old)) result state.new out.old out.new }
 {
     crate::start::start(state, name, out)
 }
 
 // A connection has come in: takes the lowest free slot.
-pub fn arrive(state: &mut [u8; SIZE]) -> Answer
+pub fn arrive(state: &mut [u8; SIZE]) -> Result<Answer, Refusal>
     ensures { Tells (arrive_of (endpoint_of state.old)) result state.new }
 {
     crate::slots::arrive(state)
 }
 
 // Frees any taken slot.
-pub fn close(state: &mut [u8; SIZE], at: usize) -> Answer
+pub fn close(state: &mut [u8; SIZE], at: usize) -> Result<Answer, Refusal>
     ensures { Tells (close_of (endpoint_of state.old) at) result state.new }
 {
     crate::slots::close(state, at)
@@ -71,7 +75,7 @@ pub fn message<'a>(
     own: &'a [u8],
     standard: &'a [u8],
     out: &mut [u8],
-) -> Answer
+) -> Result<Answer, Refusal>
     ensures { Does (message_of (cookies own.now standard.now) (endpoint_of state.old) slot frame.now challenge (length out.old)) result state.new out.old out.new }
 {
     crate::message::message(state, slot, frame, challenge, own, standard, out)

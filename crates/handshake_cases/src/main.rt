@@ -6,118 +6,79 @@
 
 ghost use Rattle.std.specs.Prelude.{◌≡◌, ◌≤◌, length};
 
-use cases::input::fill;
-use cases::print::word;
-use cases::record;
+use cases::input::{SPACE, records};
+use cases::print::Hex;
 use handshake::{SIZE, calls};
-use handshake_rules::endpoint::{Answer, Freed, Making};
+use handshake_rules::endpoint::Answer;
 use handshake_rules::refusal::Refusal;
-use read::{byte, num16, num32, num64, part};
+use read::{byte, number, part, rest};
 use std::io;
 use std::io::Write;
 
 mod read;
 
-// How much of stdin is read.
-const SPACE: usize = 65536;
-
-fn wide(b: u8) -> u64 {
-    b as u64
+// What a program prints of a refusal is its own: no Display of Why says it plainer for all.
+fn tell_refusal(to: &mut impl Write, refusal: Refusal) -> io::Result<()> {
+    let why = refusal.why();
+    write!(to, "refused {} {} {}", why.number, why.missing, why.lowest)
 }
 
-fn number(to: &mut impl Write, n: u64) -> io::Result<()> {
-    word(to, b" ")?;
-    cases::print::number(to, n)
-}
-
-fn bytes(to: &mut impl Write, s: &[u8]) -> io::Result<()> {
-    word(to, b" ")?;
-    cases::print::bytes(to, s)
-}
-
-fn freed_number(to: &mut impl Write, freed: Freed) -> io::Result<()> {
+fn tell_freed(to: &mut impl Write, freed: Option<usize>) -> io::Result<()> {
     match freed {
-        Freed::Nothing => word(to, b" -"),
-        Freed::At(slot) => number(to, slot as u64),
+        None => write!(to, " -"),
+        Some(slot) => write!(to, " {slot}"),
     }
 }
 
-fn tell_refusal(to: &mut impl Write, refusal: Refusal) -> io::Result<()> {
-    let why = refusal.why();
-    word(to, b"refused")?;
-    number(to, why.number as u64)?;
-    number(to, why.missing as u64)?;
-    number(to, why.lowest as u64)
-}
-
 // Prints an answer, and tells how many bytes were written.
-fn tell(to: &mut impl Write, answer: Answer) -> io::Result<usize> {
+fn tell(to: &mut impl Write, answer: Result<Answer, Refusal>) -> io::Result<usize> {
     match answer {
-        Answer::Refused(refusal) => {
+        Err(refusal) => {
             tell_refusal(to, refusal)?;
             Ok(0)
         }
-        Answer::Begun { slot, count } => {
-            word(to, b"begun")?;
-            number(to, slot as u64)?;
-            number(to, count as u64)?;
+        Ok(Answer::Begun { slot, count }) => {
+            write!(to, "begun {slot} {count}")?;
             Ok(count)
         }
-        Answer::Arrived { slot } => {
-            word(to, b"arrived")?;
-            number(to, slot as u64)?;
+        Ok(Answer::Arrived { slot }) => {
+            write!(to, "arrived {slot}")?;
             Ok(0)
         }
-        Answer::Closed => {
-            word(to, b"closed")?;
+        Ok(Answer::Closed) => {
+            write!(to, "closed")?;
             Ok(0)
         }
-        Answer::Answered {
-            stage,
-            freed,
-            count,
-        } => {
-            word(to, b"answered")?;
-            number(to, wide(stage.number()))?;
-            freed_number(to, freed)?;
-            number(to, count as u64)?;
+        Ok(
+            Answer::Answered {
+                stage,
+                freed,
+                count,
+            },
+        ) => {
+            write!(to, "answered {}", stage.number())?;
+            tell_freed(to, freed)?;
+            write!(to, " {count}")?;
             Ok(count)
         }
     }
 }
 
 // How many bytes from an offset on are not as they were.
-fn changed(out: &[u8], from: usize) -> u64 {
-    let mut n: u64 = 0;
-    let mut i = 0;
-    while i < out.len() {
-        n += differs(out[i], i, from);
-        i += 1;
-    }
-    n
-}
-
-fn differs(b: u8, i: usize, from: usize) -> u64
-    ensures { result ≤ 1 }
-{
-    if i < from {
-        return 0;
-    }
-    if b == 170 { 0 } else { 1 }
+fn changed(out: &[u8], from: usize) -> usize {
+    out.iter().skip(from).filter(|b| **b != 170).count()
 }
 
 // What was written; how many bytes behind it are not as they were, and how many in all.
 fn print_output(to: &mut impl Write, out: &[u8], count: usize) -> io::Result<()> {
-    bytes(to, part(out, 0, count))?;
-    number(to, changed(out, count))?;
-    number(to, changed(out, 0))
+    let written = Hex(part(out, 0, count));
+    write!(to, " {written} {} {}", changed(out, count), changed(out, 0))
 }
 
 fn make(to: &mut impl Write, e: &mut [u8; SIZE], r: &[u8]) -> io::Result<()> {
-    let making = calls::make(e, part(r, 14, 65535), num64(r, 2), num32(r, 10));
-    match making {
-        Making::Ready => word(to, b"made"),
-        Making::NotMade(refusal) => tell_refusal(to, refusal),
+    match calls::make(e, rest(r, 14), number(r, 2), number(r, 10)) {
+        Ok(()) => write!(to, "made"),
+        Err(refusal) => tell_refusal(to, refusal),
     }
 }
 
@@ -132,35 +93,35 @@ fn output() -> [u8; 600]
 fn room(n: u16) -> usize
     ensures { result ≤ 600 }
 {
-    if n < 600 { n as usize } else { 600 }
+    usize::from(n).min(600)
 }
 
 fn start(to: &mut impl Write, e: &mut [u8; SIZE], r: &[u8], out: &mut [u8]) -> io::Result<()> {
-    let answer = calls::start(e, part(r, 4, 65535), out);
+    let answer = calls::start(e, rest(r, 4), out);
     let count = tell(to, answer)?;
     print_output(to, out, count)
 }
 
 fn arrive(to: &mut impl Write, e: &mut [u8; SIZE]) -> io::Result<()> {
-    let answer = calls::arrive(e);
-    tell(to, answer)?;
+    tell(to, calls::arrive(e))?;
     Ok(())
 }
 
 fn close(to: &mut impl Write, e: &mut [u8; SIZE], r: &[u8]) -> io::Result<()> {
-    let answer = calls::close(e, num16(r, 2) as usize);
-    tell(to, answer)?;
+    let slot: u16 = number(r, 2);
+    tell(to, calls::close(e, usize::from(slot)))?;
     Ok(())
 }
 
 fn message(to: &mut impl Write, e: &mut [u8; SIZE], r: &[u8], out: &mut [u8]) -> io::Result<()> {
-    let own = num16(r, 10) as usize;
-    let standard = num16(r, 12) as usize;
+    let slot: u16 = number(r, 2);
+    let own = usize::from(number::<u16>(r, 10));
+    let standard = usize::from(number::<u16>(r, 12));
     let answer = calls::message(
         e,
-        num16(r, 2) as usize,
-        part(r, 14 + own + standard, 65535),
-        num32(r, 4),
+        usize::from(slot),
+        rest(r, 14 + own + standard),
+        number(r, 4),
         part(r, 14, own),
         part(r, 14 + own, standard),
         out,
@@ -169,29 +130,30 @@ fn message(to: &mut impl Write, e: &mut [u8; SIZE], r: &[u8], out: &mut [u8]) ->
     print_output(to, out, count)
 }
 
+// One function for this and the next would take the call as a closure over endpoint and output: no plainer.
 fn start_in(to: &mut impl Write, e: &mut [u8; SIZE], r: &[u8]) -> io::Result<()> {
     let mut space = output();
-    let n = room(num16(r, 2));
+    let n = room(number(r, 2));
     start(to, e, r, &mut space[..n])
 }
 
 fn message_in(to: &mut impl Write, e: &mut [u8; SIZE], r: &[u8]) -> io::Result<()> {
     let mut space = output();
-    let n = room(num16(r, 8));
+    let n = room(number(r, 8));
     message(to, e, r, &mut space[..n])
 }
 
 fn show(to: &mut impl Write, e: &mut [u8; SIZE], r: &[u8]) -> io::Result<()> {
-    let s = calls::slot(e, num16(r, 2) as usize);
-    word(to, b"slot")?;
-    let stage = s.stage;
-    number(to, wide(stage.number()))?;
-    let n = s.name;
-    let b = n.array();
-    bytes(to, part(&b, 0, n.size()))?;
-    number(to, s.flags)?;
-    number(to, s.creation as u64)?;
-    number(to, s.challenge as u64)
+    let slot: u16 = number(r, 2);
+    let s = calls::slot(e, usize::from(slot));
+    let name = s.name.array();
+    write!(
+        to,
+        "slot {} {}",
+        s.stage.number(),
+        Hex(part(&name, 0, s.name.size()))
+    )?;
+    write!(to, " {} {} {}", s.flags, s.creation, s.challenge)
 }
 
 fn act(to: &mut impl Write, e: &mut [u8; SIZE], r: &[u8]) -> io::Result<()> {
@@ -205,7 +167,7 @@ fn act(to: &mut impl Write, e: &mut [u8; SIZE], r: &[u8]) -> io::Result<()> {
     }
 }
 
-// By the record's second byte, on the one endpoint or the other.
+// By the case's second byte, on the one endpoint or the other.
 fn step(
     to: &mut impl Write,
     one: &mut [u8; SIZE],
@@ -217,28 +179,16 @@ fn step(
     } else {
         act(to, two, r)?;
     }
-    word(to, b"\n")
-}
-
-fn run(to: &mut impl Write, s: &[u8]) -> io::Result<()> {
-    let mut one = [0u8; SIZE];
-    let mut two = [0u8; SIZE];
-    let mut at = 0;
-    while at < s.len() {
-        let r = record::find(s, at);
-        let start = r.start;
-        let end = r.end;
-        if end <= at {
-            return Ok(());
-        }
-        step(to, &mut one, &mut two, &s[start..end])?;
-        at = end;
-    }
-    Ok(())
+    writeln!(to)
 }
 
 fn main(rt: HostRuntime) -> io::Result<()> {
     let mut space = [0u8; SPACE];
-    let n = fill(&mut rt.stdin(), &mut space)?;
-    run(&mut rt.stdout(), &space[..n])
+    let mut one = [0u8; SIZE];
+    let mut two = [0u8; SIZE];
+    let mut to = rt.stdout();
+    for case in records(&mut rt.stdin(), &mut space)? {
+        step(&mut to, &mut one, &mut two, case)?;
+    }
+    Ok(())
 }

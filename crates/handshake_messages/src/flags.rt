@@ -3,7 +3,7 @@
 ghost use Rattle.std.specs.Prelude.{◌≡◌};
 ghost use Rattle.handshake_rules.specs.Flags.{flag_test};
 
-use handshake_rules::flags::{FlagFlaw, FlagTest};
+use handshake_rules::flags::FlagFlaw;
 
 // Bits 2, 8, 24, 25 and 34.
 const REQUIRED: u64 = 0x403000104;
@@ -11,18 +11,18 @@ const REQUIRED: u64 = 0x403000104;
 // Bit 33, DFLAG_NAME_ME: a dynamic name is asked for.
 const NAME_ME: u64 = 0x200000000;
 
-pub fn flag_test(flags: u64) -> FlagTest
+pub fn flag_test(flags: u64) -> Result<(), FlagFlaw>
     ensures { result ≡ flag_test flags }
 {
     let lacking = REQUIRED & !flags;
     if lacking != 0 {
-        return FlagTest::Bad(FlagFlaw::Missing {
+        return Err(FlagFlaw::Missing {
             count: u64::count_ones(lacking),
             lowest: u64::trailing_zeros(lacking),
         });
     }
-    if flags / NAME_ME % 2 == 1 {
-        return FlagTest::Bad(FlagFlaw::NameMe);
+    if flags & NAME_ME != 0 {
+        return Err(FlagFlaw::NameMe);
     }
-    FlagTest::Good
+    Ok(())
 }

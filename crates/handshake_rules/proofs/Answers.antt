@@ -1,4 +1,5 @@
 -- The calls where nothing is refused, and what a message's answer tells. Assumes nothing.
+use Rattle.std.specs.Prelude.{Ok}
 use Prim.Native.Nat.{ℕ}
 use mathlib.Core.Path.{◌≡◌, ap}
 use mathlib.Core.Bool.{Bool, true, false}
@@ -6,11 +7,9 @@ use mathlib.Core.List.{List}
 use native.Mathlib.Omega.{arith}
 use Rattle.wire.specs.Run.{same_bytes}
 use Rattle.handshake_rules.specs.declared.endpoint.Stage.{Stage}
-use Rattle.handshake_rules.specs.State.{Endpoint}
-use Rattle.handshake_rules.specs.declared.endpoint.Freed.{Freed}
+use Rattle.handshake_rules.specs.State.{Endpoint, Freed}
 use Rattle.handshake_rules.specs.declared.endpoint.Answer.TheVariants.{Answered}
-use Rattle.handshake_rules.specs.declared.refusal.Check.{Check}
-use Rattle.handshake_rules.specs.Refusals.{unless}
+use Rattle.handshake_rules.specs.Refusals.{unless, Check}
 use Rattle.handshake_rules.specs.Endpoint.{slot_at, put, free_other}
 use Rattle.handshake_rules.specs.Cookie.{checking, writing, fit, digest_of}
 use Rattle.handshake_rules.specs.Plans.{Done, Act, stop, go, Plan, sure, proven, fails, judged, settled, finished, concluded}
@@ -43,7 +42,7 @@ message_unrefused k g s f c size h =
 -- what is done tells of it
 module _ (i w : List ℕ) (g : Endpoint) (s : ℕ) (st : Stage) (o : Freed) (count : ℕ) where
   abbrev Telling : Done → Type 0
-  Telling d = d.told.answer ≡ Answered st o count → Tells g s st o d.told.endpoint
+  Telling d = d.told.answer ≡ Ok (Answered st o count) → Tells g s st o d.told.endpoint
 
   go_tells : (a : Act) → Telling (finished w g s (go a))
   unfolding finished

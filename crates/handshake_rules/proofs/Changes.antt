@@ -1,4 +1,5 @@
 -- What a message comes to, and what a call makes of one slot, each case by its cause. Assumes nothing.
+use Rattle.std.specs.Prelude.{None, Some, Ok, Err}
 use Prim.Native.Nat.{ℕ}
 use mathlib.Core.Path.{◌≡◌, refl, sym, ◌∙◌, ap, subst}
 use mathlib.Core.Logic.{⊎_elim}
@@ -8,14 +9,10 @@ use native.Mathlib.Omega.{arith}
 use lib.ListN.{length}
 use Rattle.wire.specs.Run.{same_bytes}
 use Rattle.handshake_rules.specs.declared.refusal.Refusal.{Refusal}
-use Rattle.handshake_rules.specs.declared.refusal.Check.{Check}
-use Rattle.handshake_rules.specs.declared.refusal.Check.TheVariants.{Pass, Refuse}
 use Rattle.handshake_rules.specs.declared.endpoint.Stage.TheVariants.{AwaitsName, AwaitsStatus}
 use Rattle.handshake_rules.specs.declared.endpoint.Slot.{Slot}
-use Rattle.handshake_rules.specs.State.{Endpoint}
-use Rattle.handshake_rules.specs.declared.endpoint.Freed.{Freed}
-use Rattle.handshake_rules.specs.declared.endpoint.Freed.TheVariants.{Nothing, At}
-use Rattle.handshake_rules.specs.Refusals.{Test, checked, unless}
+use Rattle.handshake_rules.specs.State.{Endpoint, Freed}
+use Rattle.handshake_rules.specs.Refusals.{Test, checked, unless, Check}
 use Rattle.handshake_rules.specs.Endpoint.{free_slot, slot_at, put, freed, free_other}
 use Rattle.handshake_rules.specs.Cookie.{Cookies, checking, writing, fit, digest_of}
 use Rattle.handshake_rules.specs.Plans.{Done, Act, Outcome, stop, go, Plan, sure, proven, fails, judged, settled, render, refused, answered, finished, concluded}
@@ -48,13 +45,13 @@ came k g s f c size = by (checked tests) refl
     ends : Check → Done
     ends x = concluded (checking k) (writing k) g s (unless fails (awaited g s f c).rule x)
 
-    rule : checked tests ≡ Pass → (o : Outcome) → settled (checking k) (awaited g s f c).rule ≡ o → Came k g s f c size
+    rule : checked tests ≡ Ok tt → (o : Outcome) → settled (checking k) (awaited g s f c).rule ≡ o → Came k g s f c size
     rule e (stop r) p = stops r (ap ends e ∙ ap (finished (writing k) g s) p)
     rule e (go a) p = acts a (record { passes = none_holds tests e; comes = p; done = ap ends e ∙ ap (finished (writing k) g s) p })
 
     by : (x : Check) → checked tests ≡ x → Came k g s f c size
-    by Pass e = rule e (settled (checking k) (awaited g s f c).rule) refl
-    by (Refuse r) e = stops r (ap ends e)
+    by (Ok _) e = rule e (settled (checking k) (awaited g s f c).rule) refl
+    by (Err r) e = stops r (ap ends e)
 
 -- Q holds of whatever a plan does
 abbrev pub OnAct : (Act → Type 0) → Plan → Type 0
@@ -91,8 +88,8 @@ module _ (k : Cookies) (g : Endpoint) (i : ℕ) (c : Call) where
   frees s = put_changes g s free_slot (unchanged refl) (λ e. emptied refl)
 
   frees_other : (o : Freed) → Change k g i c (slot_at (free_other g o) i)
-  frees_other Nothing = unchanged refl
-  frees_other (At s) = frees s
+  frees_other None = unchanged refl
+  frees_other (Some s) = frees s
 
 message_changes : (k : Cookies) (g : Endpoint) (i s : ℕ) (f : List ℕ) (h : ℕ) (out : List ℕ) → Came k g s f h (length out)
     → Change k g i (Message s f h out) (slot_at (message_of k g s f h (length out)).told.endpoint i)

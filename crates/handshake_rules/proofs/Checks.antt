@@ -1,4 +1,5 @@
 -- Which messages make a digest check, and of what (specs/Claims). Assumes nothing.
+use Rattle.std.specs.Prelude.{Ok, Err}
 use Prim.Native.Nat.{ℕ}
 use mathlib.Core.Path.{◌≡◌, refl}
 use mathlib.Core.Bool.{Bool}
@@ -11,13 +12,12 @@ use Rattle.handshake_rules.specs.declared.endpoint.Stage.{Stage}
 use Rattle.handshake_rules.specs.declared.endpoint.Stage.TheVariants.{Free, AwaitsName, AwaitsAlive, AwaitsReply, AwaitsStatus, AwaitsChallenge, AwaitsAck, Connected}
 use Rattle.handshake_rules.specs.declared.endpoint.Slot.{Slot}
 use Rattle.handshake_rules.specs.State.{Endpoint}
-use Rattle.handshake_rules.specs.declared.refusal.Check.{Check}
-use Rattle.handshake_rules.specs.declared.refusal.Check.TheVariants.{Pass, Refuse}
 use Rattle.handshake_rules.specs.declared.accepting.Greeting.{Greeting}
-use Rattle.handshake_rules.specs.declared.accepting.Greeting.TheVariants.{NotAllowed, Nok, OkSimultaneous, Alive, Ok}
+use Rattle.handshake_rules.specs.declared.accepting.Greeting.TheVariants.{NotAllowed, Nok, OkSimultaneous, Alive}
+use Rattle.handshake_rules.specs.declared.accepting.Greeting.TheVariants as greet
 use Rattle.handshake_rules.specs.declared.connecting.Reaction.{Reaction}
 use Rattle.handshake_rules.specs.declared.connecting.Reaction.TheVariants.{Proceed, Confirm, GiveUp, Unknown}
-use Rattle.handshake_rules.specs.Refusals.{checked, unless}
+use Rattle.handshake_rules.specs.Refusals.{checked, unless, Check}
 use Rattle.handshake_rules.specs.Endpoint.{slot_at}
 use Rattle.handshake_rules.specs.Messages.{name_name, name_flags, name_creation, status_word, true_word, false_word}
 use Rattle.handshake_rules.specs.Cookie.{checking, writing, fit}
@@ -39,7 +39,7 @@ module _ (k : List ℕ) (g : Endpoint) (sl : Slot) (b : List ℕ) (c : ℕ) wher
   on_name_lem n f m Nok = refl
   on_name_lem n f m (OkSimultaneous mine) = refl
   on_name_lem n f m Alive = refl
-  on_name_lem n f m Ok = refl
+  on_name_lem n f m greet.Ok = refl
 
   on_status_lem : (x : Reaction) → Unchecked (on_status sl x)
   unfolding verdict
@@ -62,8 +62,8 @@ module _ (k : List ℕ) (g : Endpoint) (sl : Slot) (b : List ℕ) (c : ℕ) wher
 
 planned : (k : List ℕ) (p : Plan) (v : Option Bool) → verdict k p ≡ v → (x : Check) → verdict k (unless fails p x) ≡ unless (λ r. none) v x
 unfolding verdict
-planned k p v e Pass = e
-planned k p v e (Refuse r) = refl
+planned k p v e (Ok _) = e
+planned k p v e (Err r) = refl
 
 pub check_made : CheckMade
 unfolding check_of plan

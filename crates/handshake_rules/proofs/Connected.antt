@@ -1,5 +1,6 @@
 -- A slot becomes connected only by a message on that very slot, whose digest is that of the slot's own challenge with the call's cookie. It holds of
 -- every slot and every endpoint. Assumes nothing.
+use Rattle.std.specs.Prelude.{None, Some, Ok}
 use Prim.Native.Nat.{ℕ}
 use mathlib.Core.Path.{◌≡◌, refl, sym, ◌∙◌, ap, subst}
 use mathlib.Core.Logic.{◌⊎◌, inl, inr, ⊎_map, ⊎_elim}
@@ -16,9 +17,7 @@ use Rattle.handshake_rules.specs.declared.refusal.Refusal.TheVariants.{WrongDige
 use Rattle.handshake_rules.specs.declared.endpoint.Stage.{Stage}
 use Rattle.handshake_rules.specs.declared.endpoint.Stage.TheVariants.{AwaitsName, AwaitsStatus, Connected}
 use Rattle.handshake_rules.specs.declared.endpoint.Slot.{Slot}
-use Rattle.handshake_rules.specs.State.{Endpoint}
-use Rattle.handshake_rules.specs.declared.endpoint.Freed.{Freed}
-use Rattle.handshake_rules.specs.declared.endpoint.Freed.TheVariants.{Nothing, At}
+use Rattle.handshake_rules.specs.State.{Endpoint, Freed}
 use Rattle.handshake_rules.specs.declared.endpoint.Answer.TheVariants.{Answered}
 use Rattle.handshake_rules.specs.Refusals.{message_fate}
 use Rattle.names.specs.declared.held.Name.{Name}
@@ -51,8 +50,8 @@ module _ (i : ℕ) where
       connected_true p n = sym (ap (λ (st : Stage). eqb (kind st) 3) p) ∙ n
 
   other_up : (g : Endpoint) (o : Freed) → Up (free_other g o) → Up g
-  other_up g Nothing e = e
-  other_up g (At s) e = kept_up g s free_slot refl e
+  other_up g None e = e
+  other_up g (Some s) e = kept_up g s free_slot refl e
 
   refused_up : (g : Endpoint) (s : ℕ) (r : Refusal) → Up (spared g s (message_fate r)) → Up g
   refused_up g s r = spared_elim (λ h. Up h → Up g) g s r (λ e. e) (kept_up g s free_slot refl)
@@ -63,7 +62,7 @@ module _ (i : ℕ) where
       shown : Shown k g i (Message s f c out)
       freed : Freed
       count : ℕ
-      answer : d.told.answer ≡ Answered Connected freed count
+      answer : d.told.answer ≡ Ok (Answered Connected freed count)
       slot : slot_at d.told.endpoint i ≡ moved (slot_at g i) Connected
 
     plan_up : (s : ℕ) (f : List ℕ) (c : ℕ) (out : List ℕ) (p : Plan) → Sane g (slot_at g s) (body f) p
@@ -89,7 +88,7 @@ module _ (i : ℕ) where
               shown = shown t p.0;
               freed = a.other;
               count = _;
-              answer = ap (λ (x : Slot). Answered x.stage a.other (length (render (writing k) a.writes))) h.2;
+              answer = ap (λ (x : Slot). Ok (Answered x.stage a.other (length (render (writing k) a.writes)))) h.2;
               slot = p.1 ∙ h.2 ∙ ap (λ (j : ℕ). moved (slot_at g j) Connected) p.0;
             })
             (put_up (free_other g a.other) s a.slot e)

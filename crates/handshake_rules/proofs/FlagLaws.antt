@@ -1,4 +1,5 @@
 -- Laws of the flag test (specs/FlagClaims). Assumes nothing.
+use Rattle.std.specs.Prelude.{Ok, Err}
 use Prim.Native.Nat.{ℕ, zero, suc, ◌+◌, ◌<◌, ◌≤◌}
 use mathlib.Core.Path.{◌≡◌, refl, sym, ◌∙◌, ap, ap₂}
 use mathlib.Core.Bool.{Bool, true, false, true≢false, cond, ◌&&◌, ◌||◌, not}
@@ -8,9 +9,7 @@ use lib.ListN.{length}
 use lib.Dec.{eqb, ltb}
 use borrow.Author.Tests.{eqb-true, eqb-false, eq-eqb, ne_eqb, ltb-true, ltb-false, lt-ltb, le-ltb}
 use Rattle.handshake_rules.specs.declared.flags.FlagFlaw.TheVariants.{Missing, NameMe}
-use Rattle.handshake_rules.specs.declared.flags.FlagTest.{FlagTest}
-use Rattle.handshake_rules.specs.declared.flags.FlagTest.TheVariants.{Good, Bad}
-use Rattle.handshake_rules.specs.Flags.{bit, all_set, required, name_me, good_flags, missing, test_of, flag_test}
+use Rattle.handshake_rules.specs.Flags.{bit, all_set, required, name_me, good_flags, missing, test_of, flag_test, FlagTest}
 use Rattle.handshake_rules.specs.Forms.{flag_tests}
 use Rattle.handshake_rules.specs.FlagClaims.{among, clear_below, Lacks, Says, FlagsTested, OneAnswer, is_good, GoodExactly}
 use Rattle.handshake_rules.specs.Claims.{NoneHolds}
@@ -32,20 +31,20 @@ pub good_exactly : GoodExactly
 unfolding good_flags flag_test
 good_exactly f = good_from required f (bit name_me f)
 
-good_is : (x : FlagTest) → is_good x ≡ true → x ≡ Good
-good_is Good e = refl
-good_is (Bad w) e = absurd (true≢false (sym e))
+good_is : (x : FlagTest) → is_good x ≡ true → x ≡ Ok tt
+good_is (Ok _) e = refl
+good_is (Err w) e = absurd (true≢false (sym e))
 
-pub test_good : (f : ℕ) → good_flags f ≡ true → flag_test f ≡ Good
+pub test_good : (f : ℕ) → good_flags f ≡ true → flag_test f ≡ Ok tt
 test_good f e = good_is (flag_test f) (sym (good_exactly f) ∙ e)
 
-pub good_flags_lem : (f : ℕ) → flag_test f ≡ Good → good_flags f ≡ true
+pub good_flags_lem : (f : ℕ) → flag_test f ≡ Ok tt → good_flags f ≡ true
 good_flags_lem f e = good_exactly f ∙ ap is_good e
 
 -- where 9 is not given, the test says good
-pub none_bad : (x : FlagTest) → NoneHolds (flag_tests x) → x ≡ Good
-none_bad Good h = refl
-none_bad (Bad w) h = absurd (true≢false h.0)
+pub none_bad : (x : FlagTest) → NoneHolds (flag_tests x) → x ≡ Ok tt
+none_bad (Ok _) h = refl
+none_bad (Err w) h = absurd (true≢false h.0)
 
 -- ---- missing
 
@@ -164,7 +163,7 @@ flags_tested f = by (missing required f) (bit name_me f) refl (tells required 0 
     by (i ∷ rest) false e h n = lacks i (length (i ∷ rest)) h n
 
 -- a count that is told is that of the bits missing, and not 0
-pub counts : (m : List ℕ) (asked : Bool) (n i : ℕ) → test_of m asked ≡ Bad (Missing n i) → (1 ≤ n) × (n ≡ length m)
+pub counts : (m : List ℕ) (asked : Bool) (n i : ℕ) → test_of m asked ≡ Err (Missing n i) → (1 ≤ n) × (n ≡ length m)
 counts [] true n i e = let z : ◌≡◌ {A = ℕ} 0 1 = cc in absurd (omega arith)
 counts [] false n i e = let z : ◌≡◌ {A = ℕ} 0 1 = cc in absurd (omega arith)
 counts (j ∷ js) asked n i e = let z : length (j ∷ js) ≡ n = cc in (omega (arith, z), sym z)
@@ -179,12 +178,12 @@ lowest_same f c d i j g h = by (ltb i j) (ltb j i) refl refl
     by false false p q = omega (arith, ltb-false i j p, ltb-false j i q)
 
 pub one_answer : OneAnswer
-one_answer f Good Good p q = refl
-one_answer f Good (Bad NameMe) p q = absurd (true≢false (sym q.1 ∙ p.1))
-one_answer f Good (Bad (Missing c i)) p q = absurd (true≢false (sym (p.0 i q.required) ∙ q.clear))
-one_answer f (Bad NameMe) Good p q = absurd (true≢false (sym p.1 ∙ q.1))
-one_answer f (Bad NameMe) (Bad NameMe) p q = refl
-one_answer f (Bad NameMe) (Bad (Missing c i)) p q = absurd (true≢false (sym (p.0 i q.required) ∙ q.clear))
-one_answer f (Bad (Missing c i)) Good p q = absurd (true≢false (sym (q.0 i p.required) ∙ p.clear))
-one_answer f (Bad (Missing c i)) (Bad NameMe) p q = absurd (true≢false (sym (q.0 i p.required) ∙ p.clear))
-one_answer f (Bad (Missing c i)) (Bad (Missing d j)) p q = ap₂ (λ (u v : ℕ). Bad (Missing u v)) (p.counted ∙ sym q.counted) (lowest_same f c d i j p q)
+one_answer f (Ok _) (Ok _) p q = refl
+one_answer f (Ok _) (Err NameMe) p q = absurd (true≢false (sym q.1 ∙ p.1))
+one_answer f (Ok _) (Err (Missing c i)) p q = absurd (true≢false (sym (p.0 i q.required) ∙ q.clear))
+one_answer f (Err NameMe) (Ok _) p q = absurd (true≢false (sym p.1 ∙ q.1))
+one_answer f (Err NameMe) (Err NameMe) p q = refl
+one_answer f (Err NameMe) (Err (Missing c i)) p q = absurd (true≢false (sym (p.0 i q.required) ∙ q.clear))
+one_answer f (Err (Missing c i)) (Ok _) p q = absurd (true≢false (sym (q.0 i p.required) ∙ p.clear))
+one_answer f (Err (Missing c i)) (Err NameMe) p q = absurd (true≢false (sym (q.0 i p.required) ∙ p.clear))
+one_answer f (Err (Missing c i)) (Err (Missing d j)) p q = ap₂ (λ (u v : ℕ). Err (Missing u v)) (p.counted ∙ sym q.counted) (lowest_same f c d i j p q)

@@ -1,4 +1,5 @@
 -- What a message tells of the slots that it freed or moved (specs/SlotClaims). Assumes nothing.
+use Rattle.std.specs.Prelude.{None, Some, Ok, Err, Result}
 use Prim.Native.Nat.{ℕ, ◌<◌}
 use mathlib.Core.Path.{◌≡◌, refl, sym, ◌∙◌, ap, subst}
 use mathlib.Core.Logic.{◌⊎◌, inl, inr, ⊎_elim}
@@ -13,10 +14,9 @@ use Rattle.handshake_rules.specs.declared.refusal.Refusal.{Refusal}
 use Rattle.handshake_rules.specs.declared.endpoint.Stage.{Stage}
 use Rattle.handshake_rules.specs.declared.endpoint.Stage.TheVariants.{Free, AwaitsName, AwaitsAlive, AwaitsReply, AwaitsStatus, AwaitsChallenge, AwaitsAck, Connected}
 use Rattle.handshake_rules.specs.declared.endpoint.Slot.{Slot}
-use Rattle.handshake_rules.specs.State.{Endpoint}
-use Rattle.handshake_rules.specs.declared.endpoint.Freed.{Freed}
-use Rattle.handshake_rules.specs.declared.endpoint.Freed.TheVariants.{Nothing, At}
-use Rattle.handshake_rules.specs.declared.endpoint.Answer.TheVariants.{Refused, Answered}
+use Rattle.handshake_rules.specs.State.{Endpoint, Freed}
+use Rattle.handshake_rules.specs.declared.endpoint.Answer.{Answer}
+use Rattle.handshake_rules.specs.declared.endpoint.Answer.TheVariants.{Answered}
 use Rattle.handshake_rules.specs.Refusals.{Fate, keep, free, message_fate, is_free}
 use Rattle.handshake_rules.specs.Answers.{ends_slot}
 use Rattle.handshake_rules.specs.Endpoint.{free_slot, stage_number, slot_at, put, freed, free_other}
@@ -48,7 +48,7 @@ stage_free Connected e = absurd (omega arith)
 
 -- whichever it is: an attempt of ours or a connected slot
 abbrev Told : Endpoint → Slot → Act → Type 0
-Told g sl a = (o : ℕ) → a.other ≡ At o → Frees g sl 2 o ⊎ Frees g sl 3 o
+Told g sl a = (o : ℕ) → a.other ≡ Some o → Frees g sl 2 o ⊎ Frees g sl 3 o
 
 told_plan : (g : Endpoint) (sl : Slot) (p : Plan) → Freeing g sl p → OnAct (Told g sl) p
 told_plan g sl (sure (stop r)) h = tt
@@ -59,27 +59,27 @@ module _ (g : Endpoint) (many : length g.slots ≡ 32) (k : Cookies) (s : ℕ) (
   abbrev end : Endpoint
   end = (message_of k g s m h (length out)).told.endpoint
 
-  refused_not : (r : Refusal) (st : Stage) (o : Freed) (count : ℕ) → Refused r ≡ Answered st o count → ⊥
+  refused_not : (r : Refusal) (st : Stage) (o : Freed) (count : ℕ) → ◌≡◌ {A = Result Answer Refusal} (Err r) (Ok (Answered st o count)) → ⊥
   refused_not r st o count e = let z : ◌≡◌ {A = ℕ} 0 1 = cc in omega arith
 
-  taken : (o j : ℕ) → (j ≡ 0 → ⊥) → (j ≡ 1 → ⊥) → Frees g (slot_at g s) j o → (a : Act) → a.other ≡ At o → Acted k g s m h (length out) a → WasTaken g s o end
+  taken : (o j : ℕ) → (j ≡ 0 → ⊥) → (j ≡ 1 → ⊥) → Frees g (slot_at g s) j o → (a : Act) → a.other ≡ Some o → Acted k g s m h (length out) a → WasTaken g s o end
   taken o j z u w a e d =
       record { within = w.within; taken = λ p. z (sym w.kind ∙ p); other = apart; free = ap (λ (x : Done). slot_at x.told.endpoint o) d.done ∙ ap (λ (x : Freed). slot_at (put (free_other g x) s a.slot) o) e ∙ put_other (freed g o) s a.slot o apart ∙ put_same g o free_slot (omega (arith, many, w.within)) }
     where
       apart : o ≡ s → ⊥
       apart q = u (sym w.kind ∙ ap (λ (i : ℕ). kind_of (slot_at g i)) q ∙ w.here)
 
-  told_taken : (st : Stage) (o count : ℕ) → Came k g s m h (length out) → (message_of k g s m h (length out)).told.answer ≡ Answered st (At o) count
+  told_taken : (st : Stage) (o count : ℕ) → Came k g s m h (length out) → (message_of k g s m h (length out)).told.answer ≡ Ok (Answered st (Some o) count)
       → WasTaken g s o end
-  told_taken st o count (stops r e) q = absurd (refused_not r st (At o) count (ap (λ (d : Done). d.told.answer) (sym e) ∙ q))
+  told_taken st o count (stops r e) q = absurd (refused_not r st (Some o) count (ap (λ (d : Done). d.told.answer) (sym e) ∙ q))
   told_taken st o count (acts a d) q =
       let p = ap (λ (d : Done). d.told.answer) (sym d.done) ∙ q in
-      let e : a.other ≡ At o = cc in
+      let e : a.other ≡ Some o = cc in
       ⊎_elim (λ w. taken o 2 (λ z. omega arith) (λ z. omega arith) w a e d) (λ w. taken o 3 (λ z. omega arith) (λ z. omega arith) w a e d)
       (act_of (Told g (slot_at g s)) (checking k) (awaited g s m h).rule a
       (told_plan g (slot_at g s) (awaited g s m h).rule (frees_rule g many (slot_at g s) h (body m) (slot_at g s).stage refl)) d.comes o e)
 
-  told_stage : (st : Stage) (o : Freed) (count : ℕ) → Came k g s m h (length out) → (message_of k g s m h (length out)).told.answer ≡ Answered st o count
+  told_stage : (st : Stage) (o : Freed) (count : ℕ) → Came k g s m h (length out) → (message_of k g s m h (length out)).told.answer ≡ Ok (Answered st o count)
       → (slot_at end s).stage ≡ st
   told_stage st o count (stops r e) q = absurd (refused_not r st o count (ap (λ (d : Done). d.told.answer) (sym e) ∙ q))
   told_stage st o count (acts a d) q =
@@ -132,19 +132,19 @@ module _ (g : Endpoint) (s j : ℕ) (up : (slot_at g j).stage ≡ Free → ⊥) 
   kept_up : {x : Slot} {A : Type 0} → x ≡ slot_at g j → x.stage ≡ Free → A
   kept_up p e = absurd (up (ap (λ (y : Slot). y.stage) (sym p) ∙ e))
 
-  spared_told : (r : Refusal) (x : Fate) → message_fate r ≡ x → (slot_at (spared g s x) j).stage ≡ Free → EndTold s j (Refused r)
+  spared_told : (r : Refusal) (x : Fate) → message_fate r ≡ x → (slot_at (spared g s x) j).stage ≡ Free → EndTold s j (Err r)
   spared_told r keep p e = kept_up refl e
   spared_told r free p e = ⊎_elim (λ q. kept_up q e) (λ q. as_refused (sym q.0) r refl p) (put_at g s free_slot j)
 
-  other_told : (st : Stage) (o : Freed) (count : ℕ) → (slot_at (free_other g o) j).stage ≡ Free → EndTold s j (Answered st o count)
-  other_told st Nothing count e = kept_up refl e
-  other_told st (At i) count e =
-      ⊎_elim (λ q. kept_up q e) (λ q. as_other st count (ap (λ (m : ℕ). Answered st (At m) count) q.0)) (put_at g i free_slot j)
+  other_told : (st : Stage) (o : Freed) (count : ℕ) → (slot_at (free_other g o) j).stage ≡ Free → EndTold s j (Ok (Answered st o count))
+  other_told st None count e = kept_up refl e
+  other_told st (Some i) count e =
+      ⊎_elim (λ q. kept_up q e) (λ q. as_other st count (ap (λ (m : ℕ). Ok (Answered st (Some m) count)) q.0)) (put_at g i free_slot j)
 
-  acted_told : (x : Slot) (o : Freed) (count : ℕ) → (slot_at (put (free_other g o) s x) j).stage ≡ Free → EndTold s j (Answered x.stage o count)
+  acted_told : (x : Slot) (o : Freed) (count : ℕ) → (slot_at (put (free_other g o) s x) j).stage ≡ Free → EndTold s j (Ok (Answered x.stage o count))
   acted_told x o count e =
       ⊎_elim (λ q. other_told x.stage o count (ap (λ (y : Slot). y.stage) (sym q) ∙ e))
-      (λ q. as_named (sym q.0) o count (ap (λ (st : Stage). Answered st o count) (ap (λ (y : Slot). y.stage) (sym q.1) ∙ e)))
+      (λ q. as_named (sym q.0) o count (ap (λ (st : Stage). Ok (Answered st o count)) (ap (λ (y : Slot). y.stage) (sym q.1) ∙ e)))
       (put_at (free_other g o) s x j)
 
   told_end : (d : Done) → (k : Cookies) (f : List ℕ) (h size : ℕ) → message_of k g s f h size ≡ d → Came k g s f h size → (slot_at d.told.endpoint j).stage ≡ Free

@@ -1,5 +1,6 @@
 -- No call changes the endpoint's own name, flags and creation, or the number of its slots. So what making tests holds of every endpoint that calls
 -- hand back. Assumes nothing.
+use Rattle.std.specs.Prelude.{None, Some, Ok, Err}
 use Prim.Native.Nat.{ℕ}
 use mathlib.Core.Path.{◌≡◌, refl, sym, ◌∙◌, ap}
 use mathlib.Core.Bool.{true}
@@ -7,15 +8,10 @@ use mathlib.Core.List.{List, [], ◌∷◌}
 use native.Mathlib.Omega.{arith}
 use lib.ListN.{length, length-set}
 use Rattle.names.specs.Full.{full_name}
-use Rattle.handshake_rules.specs.declared.refusal.Check.{Check}
-use Rattle.handshake_rules.specs.declared.refusal.Check.TheVariants.{Pass, Refuse}
 use Rattle.handshake_rules.specs.declared.endpoint.Slot.{Slot}
-use Rattle.handshake_rules.specs.State.{Endpoint}
-use Rattle.handshake_rules.specs.declared.endpoint.Freed.{Freed}
-use Rattle.handshake_rules.specs.declared.endpoint.Freed.TheVariants.{Nothing, At}
-use Rattle.handshake_rules.specs.declared.endpoint.Making.TheVariants.{Ready, NotMade}
+use Rattle.handshake_rules.specs.State.{Endpoint, Freed}
 use Rattle.handshake_rules.specs.State.{Made}
-use Rattle.handshake_rules.specs.Refusals.{checked, unless}
+use Rattle.handshake_rules.specs.Refusals.{checked, unless, Check}
 use Rattle.handshake_rules.specs.Flags.{good_flags, flag_test}
 use Rattle.handshake_rules.specs.Endpoint.{free_slot, fresh, put, free_other}
 use Rattle.handshake_rules.specs.Cookie.{Cookies}
@@ -41,8 +37,8 @@ alike_put : (g h : Endpoint) (s : ℕ) (x : Slot) → Alike g h → Alike g (put
 alike_put g h s x o = record { name = o.name; flags = o.flags; creation = o.creation; slots = length-set h.slots s x ∙ o.slots }
 
 pub alike_other : (g : Endpoint) (o : Freed) → Alike g (free_other g o)
-alike_other g Nothing = alike g
-alike_other g (At s) = alike_put g g s free_slot (alike g)
+alike_other g None = alike g
+alike_other g (Some s) = alike_put g g s free_slot (alike g)
 
 alike_plan : (g : Endpoint) (s : ℕ) (p : Plan) → Does (Alike g) g s p
 alike_plan g s (sure (stop r)) = tt
@@ -77,11 +73,11 @@ made_passed : (n : List ℕ) (f c : ℕ) (g : Endpoint) → MadeOf n f c g → P
 unfolding new_of
 made_passed n f c g = by (checked (new_tests n f)) refl where
   by : (x : Check) → checked (new_tests n f) ≡ x
-      → unless not_made (record { making = Ready; endpoint = fresh n f c }) x ≡ record { making = Ready; endpoint = g } → Passed n f c g
-  by Pass t e =
+      → unless not_made (record { making = Ok tt; endpoint = fresh n f c }) x ≡ record { making = Ok tt; endpoint = g } → Passed n f c g
+  by (Ok _) t e =
       let h = none_holds (new_tests n f) t in
       record { is = ap (λ (m : Made). m.endpoint) (sym e); full = not_not (full_name n) h.0; good = good_flags_lem f (none_bad (flag_test f) h.1) }
-  by (Refuse r) t e = let q : NotMade r ≡ Ready = ap (λ (m : Made). m.making) e in let z : ◌≡◌ {A = ℕ} 0 1 = cc in absurd (omega arith)
+  by (Err r) t e = let q : Err r ≡ Ok tt = ap (λ (m : Made). m.making) e in let z : ◌≡◌ {A = ℕ} 0 1 = cc in absurd (omega arith)
 
 pub made_fresh : MadeFresh
 made_fresh n f c g m = (made_passed n f c g m).is

@@ -1,4 +1,5 @@
 -- A connected slot stays as it is, unless it is closed, or a right digest is shown on another slot of the same peer. Assumes nothing.
+use Rattle.std.specs.Prelude.{None, Some, Err}
 use Prim.Native.Nat.{ℕ, ◌<◌}
 use mathlib.Core.Path.{◌≡◌, refl, sym, ◌∙◌, ap, subst}
 use mathlib.Core.Logic.{◌⊎◌, inl, ⊎_map, ⊎_elim}
@@ -13,14 +14,11 @@ use Rattle.wire.specs.Frame.{body}
 use Rattle.wire.proofs.RunLaws.{same_decides, and_left}
 use Rattle.handshake_rules.specs.declared.refusal.Refusal.{Refusal}
 use Rattle.handshake_rules.specs.declared.refusal.Refusal.TheVariants.{OutputTooShort, SlotNotTaken, AlreadyConnected, WrongDigest}
-use Rattle.handshake_rules.specs.declared.refusal.Check.TheVariants.{Refuse}
 use Rattle.handshake_rules.specs.declared.endpoint.Stage.{Stage}
 use Rattle.handshake_rules.specs.declared.endpoint.Stage.TheVariants.{Free, AwaitsName, AwaitsAlive, AwaitsReply, AwaitsStatus, AwaitsChallenge, AwaitsAck, Connected}
 use Rattle.handshake_rules.specs.declared.endpoint.Slot.{Slot}
-use Rattle.handshake_rules.specs.State.{Endpoint}
+use Rattle.handshake_rules.specs.State.{Endpoint, Freed}
 use Rattle.handshake_rules.specs.declared.endpoint.Sought.TheVariants.{AnyFree, StartedTo, ConnectedTo}
-use Rattle.handshake_rules.specs.declared.endpoint.Freed.{Freed}
-use Rattle.handshake_rules.specs.declared.endpoint.Freed.TheVariants.{Nothing, At}
 use Rattle.handshake_rules.specs.declared.accepting.Greeting.{Greeting}
 use Rattle.handshake_rules.specs.declared.accepting.Greeting.TheVariants.{NotAllowed, Nok, OkSimultaneous, Alive, Ok}
 use Rattle.handshake_rules.specs.declared.connecting.Reaction.{Reaction}
@@ -50,8 +48,8 @@ pub record Frees (g : Endpoint) (sl : Slot) (k o : ℕ) : Type 0 where
 
 abbrev pub Freeing : Endpoint → Slot → Plan → Type 0
 Freeing g sl (sure (stop r)) = Unit
-Freeing g sl (sure (go a)) = (o : ℕ) → a.other ≡ At o → Frees g sl 2 o
-Freeing g sl (proven c d a) = (o : ℕ) → a.other ≡ At o → Frees g sl 3 o × (peer (slot_at g o) ≡ peer sl)
+Freeing g sl (sure (go a)) = (o : ℕ) → a.other ≡ Some o → Frees g sl 2 o
+Freeing g sl (proven c d a) = (o : ℕ) → a.other ≡ Some o → Frees g sl 3 o × (peer (slot_at g o) ≡ peer sl)
 
 -- what is found by kind and peer
 pub seen : (k : ℕ) (n : List ℕ) (y : Slot) → (eqb (kind_of y) k && same_bytes (peer y) n) ≡ true → (kind_of y ≡ k) × (peer y ≡ n)
@@ -59,7 +57,7 @@ seen k n y e =
     let b = both_true (eqb (kind_of y) k) (same_bytes (peer y) n) e in
     (eqb-true (kind_of y) k b.0, (same_decides (peer y) n).0 b.1)
 
-none_freed : (o : ℕ) → Nothing ≡ At o → ⊥
+none_freed : (o : ℕ) → ◌≡◌ {A = Freed} None (Some o) → ⊥
 none_freed o e = let z : ◌≡◌ {A = ℕ} 0 1 = cc in omega arith
 
 module _ (g : Endpoint) (many : length g.slots ≡ 32) (sl : Slot) where
@@ -76,13 +74,13 @@ module _ (g : Endpoint) (many : length g.slots ≡ 32) (sl : Slot) where
   frees_on_name n f k c Alive st e = λ o e. absurd (none_freed o e)
   frees_on_name n f k c Ok st e = λ o e. absurd (none_freed o e)
 
-  frees_older : sl.stage ≡ AwaitsReply → (o : ℕ) → older g sl ≡ At o → Frees g sl 3 o × (peer (slot_at g o) ≡ peer sl)
+  frees_older : sl.stage ≡ AwaitsReply → (o : ℕ) → older g sl ≡ Some o → Frees g sl 3 o × (peer (slot_at g o) ≡ peer sl)
   frees_older st o = by (is_slot j) refl
     where
       j : ℕ
       j = lowest ConnectedTo (peer sl) g
 
-      by : (b : Bool) → is_slot j ≡ b → freed_at j b ≡ At o → Frees g sl 3 o × (peer (slot_at g o) ≡ peer sl)
+      by : (b : Bool) → is_slot j ≡ b → freed_at j b ≡ Some o → Frees g sl 3 o × (peer (slot_at g o) ≡ peer sl)
       by true t e =
           let at : j ≡ o = cc in
           let b = seen 3 (peer sl) (slot_at g j) (found g many ConnectedTo (peer sl) t) in (
@@ -139,10 +137,10 @@ module _ (g : Endpoint) (many : length g.slots ≡ 32) (i : ℕ) (up : (slot_at 
   opens x e = put_else g (lowest_free g) x (not_this (lowest_free g) 0 (free_one e) (λ z. omega arith)) refl
 
   -- a message on this very slot is refused, and keeps
-  early_kept : (s size : ℕ) (x : Bool) → (r : Refusal) × ((checked (early_tests s Connected size x) ≡ Refuse r) × (message_fate r ≡ keep))
+  early_kept : (s size : ℕ) (x : Bool) → (r : Refusal) × ((checked (early_tests s Connected size x) ≡ Err r) × (message_fate r ≡ keep))
   early_kept s size x = by (ltb size room) (leb 32 s) refl refl
     where
-      by : (a b : Bool) → ltb size room ≡ a → leb 32 s ≡ b → (r : Refusal) × ((checked (early_tests s Connected size x) ≡ Refuse r) × (message_fate r ≡ keep))
+      by : (a b : Bool) → ltb size room ≡ a → leb 32 s ≡ b → (r : Refusal) × ((checked (early_tests s Connected size x) ≡ Err r) × (message_fate r ≡ keep))
       by true b p q = (OutputTooShort, (rw p, refl))
       by false true p q = (SlotNotTaken, (rw (p, q), refl))
       by false false p q = (AlreadyConnected, (rw (p, q), refl))
@@ -162,9 +160,9 @@ module _ (g : Endpoint) (many : length g.slots ≡ 32) (i : ℕ) (up : (slot_at 
         by keep = refl
         by free = put_else g s free_slot n refl
 
-    other_else : (o : Freed) → ((j : ℕ) → o ≡ At j → j ≡ i → ⊥) → Stays (free_other g o)
-    other_else Nothing h = refl
-    other_else (At j) h = put_else g j free_slot (h j refl) refl
+    other_else : (o : Freed) → ((j : ℕ) → o ≡ Some j → j ≡ i → ⊥) → Stays (free_other g o)
+    other_else None h = refl
+    other_else (Some j) h = put_else g j free_slot (h j refl) refl
 
     plan_else : (f : List ℕ) (c : ℕ) (out : List ℕ) (p : Plan) → Sane g (slot_at g s) (body f) p → Freeing g (slot_at g s) p
         → Stays (concluded (checking k) (writing k) g s p).told.endpoint
@@ -182,8 +180,8 @@ module _ (g : Endpoint) (many : length g.slots ≡ 32) (i : ℕ) (up : (slot_at 
 
         replaced : same_bytes d (digest_of ch (checking k)) ≡ true → (o : Freed) → a.other ≡ o
             → Stays (put (free_other g o) s a.slot) ⊎ Ends k (Message s f c out) (put (free_other g o) s a.slot)
-        replaced t Nothing e = inl (put_else g s a.slot n refl)
-        replaced t (At j) e =
+        replaced t None e = inl (put_else g s a.slot n refl)
+        replaced t (Some j) e =
             ⊎_elim (λ p. ⊎_map (λ q. p ∙ q) (λ q. (ended q.0, p ∙ q.1)) (put_at g j free_slot i)) (λ p. absurd (n p.0))
             (put_at (freed g j) s a.slot i)
           where

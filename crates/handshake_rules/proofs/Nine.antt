@@ -1,4 +1,5 @@
 -- Refusal 9 carries the flag test's answer, and what stands beside a number (specs/FlagClaims). Assumes nothing.
+use Rattle.std.specs.Prelude.{Ok, Err, Result}
 use Prim.Native.Nat.{ℕ, ◌≤◌}
 use mathlib.Core.Path.{◌≡◌, refl, sym, ◌∙◌, ap, subst}
 use mathlib.Core.Bool.{Bool, true, false, true≢false, cond, not, ◌&&◌}
@@ -11,22 +12,16 @@ use Rattle.wire.specs.Frame.{body}
 use Rattle.names.specs.Full.{full_name}
 use Rattle.handshake_rules.specs.declared.flags.FlagFlaw.{FlagFlaw}
 use Rattle.handshake_rules.specs.declared.flags.FlagFlaw.TheVariants.{Missing, NameMe}
-use Rattle.handshake_rules.specs.declared.flags.FlagTest.{FlagTest}
-use Rattle.handshake_rules.specs.declared.flags.FlagTest.TheVariants.{Good, Bad}
 use Rattle.handshake_rules.specs.declared.refusal.Refusal.{Refusal}
 use Rattle.handshake_rules.specs.declared.refusal.Refusal.TheVariants.{UnknownTag, BadLength, BadName, BadFlags}
-use Rattle.handshake_rules.specs.declared.refusal.Check.{Check}
-use Rattle.handshake_rules.specs.declared.refusal.Check.TheVariants.{Refuse}
 use Rattle.handshake_rules.specs.declared.endpoint.Stage.{Stage}
 use Rattle.handshake_rules.specs.declared.endpoint.Stage.TheVariants.{Free, AwaitsName, AwaitsAlive, AwaitsReply, AwaitsStatus, AwaitsChallenge, AwaitsAck, Connected}
 use Rattle.handshake_rules.specs.declared.endpoint.Slot.{Slot}
-use Rattle.handshake_rules.specs.declared.endpoint.Making.{Making}
-use Rattle.handshake_rules.specs.declared.endpoint.Making.TheVariants.{Ready, NotMade}
 use Rattle.handshake_rules.specs.declared.endpoint.Answer.{Answer}
-use Rattle.handshake_rules.specs.declared.endpoint.Answer.TheVariants.{Refused, Begun, Arrived, Closed, Answered}
+use Rattle.handshake_rules.specs.declared.endpoint.Answer.TheVariants.{Begun, Arrived, Closed, Answered}
 use Rattle.handshake_rules.specs.State.{Endpoint}
-use Rattle.handshake_rules.specs.Refusals.{only, of_flags, why_of, Test, ◌given-if◌, checked}
-use Rattle.handshake_rules.specs.Flags.{bit, required, name_me, missing, flag_test}
+use Rattle.handshake_rules.specs.Refusals.{only, of_flags, why_of, Test, ◌given-if◌, checked, Check}
+use Rattle.handshake_rules.specs.Flags.{bit, required, name_me, missing, flag_test, FlagTest}
 use Rattle.handshake_rules.specs.Answers.{making_why, numbers_of}
 use Rattle.handshake_rules.specs.Endpoint.{slot_at}
 use Rattle.handshake_rules.specs.Messages.{name_flags, challenge_flags}
@@ -38,7 +33,7 @@ use Rattle.handshake_rules.specs.NumberClaims.{check_why, Givable, rule_tests, a
 use Rattle.handshake_rules.specs.FlagClaims.{Says, Brought, BroughtIn, CarriedOn, Beside, some_missing, name_me_lem, alone, ToldBeside}
 use Rattle.handshake_rules.proofs.FlagLaws.{counts, flags_tested}
 use Rattle.handshake_rules.proofs.OtherLaws.{Told, number_only, with_flags, told}
-use Rattle.handshake_rules.proofs.Numbers.{refused_by, not_made_by, made_check, start_check, arrive_check, close_check, message_check}
+use Rattle.handshake_rules.proofs.Numbers.{refused_by, made_check, start_check, arrive_check, close_check, message_check}
 
 -- the number of what a list of tests comes to
 abbrev number : Check → ℕ
@@ -55,7 +50,7 @@ before_flags f = UnknownTag given-if not f.served ∷ BadLength given-if not f.f
 
 module _ (w : FlagFlaw) where
   abbrev Nine : List Test → Type 0
-  Nine ts = checked ts ≡ Refuse (BadFlags w)
+  Nine ts = checked ts ≡ Err (BadFlags w)
 
   -- 9 comes from what stands behind tests without it
   behind : (ts us : List Test) → without ts ≡ true → Nine (ts ++ us) → Nine us
@@ -74,9 +69,9 @@ module _ (w : FlagFlaw) where
       none : Nine [] → ⊥
       none e = let z : ◌≡◌ {A = ℕ} 0 9 = ap number e in omega arith
 
-  from_flags : (x : FlagTest) (us : List Test) → without us ≡ true → Nine (flag_tests x ++ us) → x ≡ Bad w
-  from_flags Good us n e = absurd (nowhere us n e)
-  from_flags (Bad v) us n e = ap Bad cc
+  from_flags : (x : FlagTest) (us : List Test) → without us ≡ true → Nine (flag_tests x ++ us) → x ≡ Err w
+  from_flags (Ok _) us n e = absurd (nowhere us n e)
+  from_flags (Err v) us n e = ap Err cc
 
   -- behind the tests before them stand the flags that the message brings, and the stage's rule
   brought : (g : Endpoint) (sl : Slot) (c : ℕ) (b k : List ℕ) (st : Stage) → Nine (flag_tests (expected g sl c b st).form.flags ++ rule_tests st sl b k) → Brought st b w
@@ -105,11 +100,11 @@ carried_on =
       making = λ n f c w e.
           from_flags w (flag_test f) [] refl
           (ap checked (append-nil (flag_tests (flag_test f)))
-          ∙ behind w (BadName given-if not (full_name n) ∷ []) (flag_tests (flag_test f)) refl (sym (made_check n f c) ∙ ap not_made_by e));
+          ∙ behind w (BadName given-if not (full_name n) ∷ []) (flag_tests (flag_test f)) refl (sym (made_check n f c) ∙ e));
       call = call;
     }
   where
-    call : (k : Cookies) (g : Endpoint) (c : Call) (w : FlagFlaw) → (step g c k).told.answer ≡ Refused (BadFlags w) → BroughtIn g c w
+    call : (k : Cookies) (g : Endpoint) (c : Call) (w : FlagFlaw) → (step g c k).told.answer ≡ Err (BadFlags w) → BroughtIn g c w
     call k g (Start n out) w e = nowhere w (start_tests g n (length out)) refl (sym (start_check g n (length out)) ∙ ap refused_by e)
     call k g Arrive w e = nowhere w (arrive_tests g) refl (sym (arrive_check g) ∙ ap refused_by e)
     call k g (Close s) w e = nowhere w (close_tests g s) refl (sym (close_check g s) ∙ ap refused_by e)
@@ -125,7 +120,7 @@ few (i ∷ is) f = by (bit i f) (few is f)
     by true h = omega (arith, h)
     by false h = omega (arith, h)
 
-flaw_beside : (f : ℕ) (w : FlagFlaw) → flag_test f ≡ Bad w → Beside (of_flags w)
+flaw_beside : (f : ℕ) (w : FlagFlaw) → flag_test f ≡ Err w → Beside (of_flags w)
 unfolding flag_test
 flaw_beside f NameMe e = name_me_lem
 flaw_beside f (Missing n i) e =
@@ -135,15 +130,15 @@ flaw_beside f (Missing n i) e =
 number_alone : (n : ℕ) → eqb n 9 ≡ false → Beside (only n)
 number_alone n e = alone n (eqb-false n 9 e)
 
-beside : (r : Refusal) → Givable (Refuse r) → Beside (why_of r)
+beside : (r : Refusal) → Givable (Err r) → Beside (why_of r)
 beside r g = by (told r) g
   where
-    by : {r : Refusal} → Told r → Givable (Refuse r) → Beside (why_of r)
+    by : {r : Refusal} → Told r → Givable (Err r) → Beside (why_of r)
     by (number_only q e n) g = subst Beside (sym e) (number_alone (why_of q).number n)
     by (with_flags w) g = flaw_beside (g w refl).0 w (g w refl).1
 
 -- the flags that a call brings are some flags
-some_flags : (st : Stage) (b : List ℕ) (w : FlagFlaw) → Brought st b w → (f : ℕ) × (flag_test f ≡ Bad w)
+some_flags : (st : Stage) (b : List ℕ) (w : FlagFlaw) → Brought st b w → (f : ℕ) × (flag_test f ≡ Err w)
 some_flags Free b w h = absurd h
 some_flags AwaitsName b w h = (name_flags b, h)
 some_flags AwaitsAlive b w h = absurd h
@@ -153,7 +148,7 @@ some_flags AwaitsChallenge b w h = (challenge_flags b, h)
 some_flags AwaitsAck b w h = absurd h
 some_flags Connected b w h = absurd h
 
-flags_in : (g : Endpoint) (c : Call) (w : FlagFlaw) → BroughtIn g c w → (f : ℕ) × (flag_test f ≡ Bad w)
+flags_in : (g : Endpoint) (c : Call) (w : FlagFlaw) → BroughtIn g c w → (f : ℕ) × (flag_test f ≡ Err w)
 flags_in g (Start n out) w h = absurd h
 flags_in g Arrive w h = absurd h
 flags_in g (Close s) w h = absurd h
@@ -163,13 +158,13 @@ pub told_beside : ToldBeside
 told_beside =
     record { making = λ n f c. made n f c (new_of n f c).making refl; call = λ k g c. answered k g c (step g c k).told.answer refl }
   where
-    made : (n : List ℕ) (f c : ℕ) (m : Making) → (new_of n f c).making ≡ m → Beside (making_why m)
-    made n f c Ready e = number_alone 0 refl
-    made n f c (NotMade r) e = beside r (λ w q. (f, carried_on.making n f c w (e ∙ ap NotMade q)))
+    made : (n : List ℕ) (f c : ℕ) (m : Check) → (new_of n f c).making ≡ m → Beside (making_why m)
+    made n f c (Ok _) e = number_alone 0 refl
+    made n f c (Err r) e = beside r (λ w q. (f, carried_on.making n f c w (e ∙ ap Err q)))
 
-    answered : (k : Cookies) (g : Endpoint) (c : Call) (a : Answer) → (step g c k).told.answer ≡ a → Beside (numbers_of a).why
-    answered k g c (Refused r) e = beside r (λ w q. flags_in g c w (carried_on.call k g c w (e ∙ ap Refused q)))
-    answered k g c (Begun s n) e = number_alone 0 refl
-    answered k g c (Arrived s) e = number_alone 0 refl
-    answered k g c Closed e = number_alone 0 refl
-    answered k g c (Answered st o n) e = number_alone 0 refl
+    answered : (k : Cookies) (g : Endpoint) (c : Call) (a : Result Answer Refusal) → (step g c k).told.answer ≡ a → Beside (numbers_of a).why
+    answered k g c (Err r) e = beside r (λ w q. flags_in g c w (carried_on.call k g c w (e ∙ ap Err q)))
+    answered k g c (Ok (Begun s n)) e = number_alone 0 refl
+    answered k g c (Ok (Arrived s)) e = number_alone 0 refl
+    answered k g c (Ok Closed) e = number_alone 0 refl
+    answered k g c (Ok (Answered st o n)) e = number_alone 0 refl

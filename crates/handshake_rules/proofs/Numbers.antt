@@ -1,4 +1,5 @@
 -- Each number is given exactly when its test is the first that holds (specs/NumberClaims). Assumes nothing.
+use Rattle.std.specs.Prelude.{Ok, Err, Result}
 use Prim.Native.Nat.{ℕ, zero, suc}
 use mathlib.Core.Path.{◌≡◌, refl, sym, ◌∙◌, ap, subst}
 use mathlib.Core.Bool.{Bool, true, false, true≢false, cond, not, ◌||◌}
@@ -8,24 +9,21 @@ use lib.ListN.{get_or}
 use Rattle.wire.specs.Run.{same_bytes}
 use Rattle.wire.specs.Frame.{body}
 use Rattle.wire.proofs.RunLaws.{same_decides}
+use Rattle.handshake_rules.specs.declared.refusal.Refusal.{Refusal}
 use Rattle.handshake_rules.specs.declared.refusal.Refusal.TheVariants.{OutputTooShort, SlotNotTaken, NotAFrame, UnknownTag, BadLength, BadName, BadFlags, AlreadyConnected, BadCookie, PeerTaken, NoFreeSlot, UnknownStatus, WrongDigest, Declined}
 use Rattle.handshake_rules.specs.declared.refusal.Why.{Why}
-use Rattle.handshake_rules.specs.declared.refusal.Check.{Check}
-use Rattle.handshake_rules.specs.declared.refusal.Check.TheVariants.{Pass, Refuse}
 use Rattle.handshake_rules.specs.declared.flags.FlagFlaw.{FlagFlaw}
 use Rattle.handshake_rules.specs.declared.flags.FlagFlaw.TheVariants.{Missing, NameMe}
-use Rattle.handshake_rules.specs.declared.flags.FlagTest.TheVariants.{Bad}
 use Rattle.handshake_rules.specs.declared.endpoint.Stage.{Stage}
 use Rattle.handshake_rules.specs.declared.endpoint.Stage.TheVariants.{Free, AwaitsName, AwaitsAlive, AwaitsReply, AwaitsStatus, AwaitsChallenge, AwaitsAck, Connected}
 use Rattle.handshake_rules.specs.declared.endpoint.Slot.{Slot}
 use Rattle.handshake_rules.specs.State.{Endpoint}
-use Rattle.handshake_rules.specs.declared.endpoint.Making.{Making}
-use Rattle.handshake_rules.specs.declared.endpoint.Making.TheVariants.{Ready, NotMade}
 use Rattle.handshake_rules.specs.declared.endpoint.Answer.{Answer}
-use Rattle.handshake_rules.specs.declared.endpoint.Answer.TheVariants.{Refused, Begun, Arrived, Closed, Answered}
+use Rattle.handshake_rules.specs.declared.endpoint.Answer.TheVariants.{Begun, Arrived, Closed, Answered}
 use Rattle.handshake_rules.specs.declared.accepting.Greeting.{Greeting}
-use Rattle.handshake_rules.specs.declared.accepting.Greeting.TheVariants.{NotAllowed, Nok, OkSimultaneous, Alive, Ok}
-use Rattle.handshake_rules.specs.Refusals.{Test, ◌given-if◌, checked, unless}
+use Rattle.handshake_rules.specs.declared.accepting.Greeting.TheVariants.{NotAllowed, Nok, OkSimultaneous, Alive}
+use Rattle.handshake_rules.specs.declared.accepting.Greeting.TheVariants as greet
+use Rattle.handshake_rules.specs.Refusals.{Test, ◌given-if◌, checked, unless, Check}
 use Rattle.handshake_rules.specs.Flags.{bit, required, name_me, missing, flag_test, flaw_count, flaw_bit}
 use Rattle.handshake_rules.specs.Endpoint.{fresh, freed, slot_at}
 use Rattle.handshake_rules.specs.Messages.{name_name, name_flags, name_creation, status_word, reply_digest, ack_digest, ok, ok_simultaneous, nok, not_allowed, alive, true_word, false_word}
@@ -43,17 +41,17 @@ use Rattle.handshake_rules.proofs.CheckLaws.{and_then, checked_append, none_hold
 
 -- an outcome that is refused, or not
 abbrev stop_of : Outcome → Check
-stop_of (stop r) = Refuse r
-stop_of (go a) = Pass
+stop_of (stop r) = Err r
+stop_of (go a) = Ok tt
 
 module _ (k : List ℕ) (g : Endpoint) (sl : Slot) (b : List ℕ) (c : ℕ) where
-  on_name_lem : (n : List ℕ) (f m : ℕ) (x : Greeting) → stop_of (settled k (on_name g n f m c x)) ≡ Pass
+  on_name_lem : (n : List ℕ) (f m : ℕ) (x : Greeting) → stop_of (settled k (on_name g n f m c x)) ≡ Ok tt
   unfolding settled
   on_name_lem n f m NotAllowed = refl
   on_name_lem n f m Nok = refl
   on_name_lem n f m (OkSimultaneous mine) = refl
   on_name_lem n f m Alive = refl
-  on_name_lem n f m Ok = refl
+  on_name_lem n f m greet.Ok = refl
 
   -- one of the three words by which we go on, or none of them
   on_status_lem : (w : List ℕ) → stop_of (settled k (on_status sl (reaction w)))
@@ -107,64 +105,57 @@ module _ (k : List ℕ) (g : Endpoint) (sl : Slot) (b : List ℕ) (c : ℕ) wher
 -- ---- the calls
 
 -- what a call is refused with
-abbrev pub refused_by : Answer → Check
-refused_by (Refused r) = Refuse r
-refused_by (Begun s n) = Pass
-refused_by (Arrived s) = Pass
-refused_by Closed = Pass
-refused_by (Answered st o n) = Pass
+abbrev pub refused_by : Result Answer Refusal → Check
+refused_by (Err r) = Err r
+refused_by (Ok a) = Ok tt
 
-abbrev pub not_made_by : Making → Check
-not_made_by Ready = Pass
-not_made_by (NotMade r) = Refuse r
+seen : (a : Result Answer Refusal) → (numbers_of a).why ≡ check_why (refused_by a)
+seen (Err r) = refl
+seen (Ok (Begun s n)) = refl
+seen (Ok (Arrived s)) = refl
+seen (Ok Closed) = refl
+seen (Ok (Answered st o n)) = refl
 
-seen : (a : Answer) → (numbers_of a).why ≡ check_why (refused_by a)
-seen (Refused r) = refl
-seen (Begun s n) = refl
-seen (Arrived s) = refl
-seen Closed = refl
-seen (Answered st o n) = refl
-
-made_seen : (m : Making) → making_why m ≡ check_why (not_made_by m)
-made_seen Ready = refl
-made_seen (NotMade r) = refl
+made_seen : (m : Check) → making_why m ≡ check_why m
+made_seen (Ok _) = refl
+made_seen (Err r) = refl
 
 finished_check : (w : List ℕ) (g : Endpoint) (s : ℕ) (o : Outcome) → refused_by (finished w g s o).told.answer ≡ stop_of o
 unfolding finished
 finished_check w g s (stop r) = refl
 finished_check w g s (go a) = refl
 
-pub made_check : (n : List ℕ) (f c : ℕ) → not_made_by (new_of n f c).making ≡ checked (new_tests n f)
+pub made_check : (n : List ℕ) (f c : ℕ) → (new_of n f c).making ≡ checked (new_tests n f)
 unfolding new_of
 made_check n f c = by (checked (new_tests n f))
   where
-    by : (x : Check) → not_made_by (unless not_made (record { making = Ready; endpoint = fresh n f c }) x).making ≡ x
-    by Pass = refl
-    by (Refuse r) = refl
+    by : (x : Check) → (unless not_made (record { making = Ok tt; endpoint = fresh n f c }) x).making ≡ x
+    by (Ok _) = refl
+    by (Err r) = refl
 
 pub start_check : (g : Endpoint) (n : List ℕ) (size : ℕ) → refused_by (start_of g n size).told.answer ≡ checked (start_tests g n size)
 unfolding start_of
 start_check g n size = by (checked (start_tests g n size))
   where
     by : (x : Check) → refused_by (unless (λ r. silent (kept g r)) (begun g n) x).told.answer ≡ x
-    by Pass = refl
-    by (Refuse r) = refl
+    by (Ok _) = refl
+    by (Err r) = refl
 
 pub arrive_check : (g : Endpoint) → refused_by (arrive_of g).answer ≡ checked (arrive_tests g)
 unfolding arrive_of
 arrive_check g = by (checked (arrive_tests g))
   where
     by : (x : Check) → refused_by (unless (kept g) (arrived g) x).answer ≡ x
-    by Pass = refl
-    by (Refuse r) = refl
+    by (Ok _) = refl
+    by (Err r) = refl
 
 pub close_check : (g : Endpoint) (s : ℕ) → refused_by (close_of g s).answer ≡ checked (close_tests g s)
 unfolding close_of
 close_check g s = by (checked (close_tests g s))
   where
-    by : (x : Check) → refused_by (unless (kept g) (record { answer = Closed; endpoint = freed g s }) x).answer ≡ x
-    by Pass = refl
-    by (Refuse r) = refl
+    by : (x : Check) → refused_by (unless (kept g) (record { answer = Ok Closed; endpoint = freed g s }) x).answer ≡ x
+    by (Ok _) = refl
+    by (Err r) = refl
 
 pub message_check : (k : Cookies) (g : Endpoint) (s : ℕ) (f : List ℕ) (c size : ℕ)
     → refused_by (message_of k g s f c size).told.answer ≡ checked (all_tests k g s f c size)
@@ -181,11 +172,11 @@ message_check k g s f c size = by (checked tests) refl ∙ sym (checked_append t
     ends x = refused_by (concluded (checking k) (writing k) g s (unless fails (awaited g s f c).rule x)).told.answer
 
     by : (x : Check) → checked tests ≡ x → ends (checked tests) ≡ and_then (checked tests) (checked rules)
-    by Pass e =
+    by (Ok _) e =
         ap ends e ∙ finished_check (writing k) g s (settled (checking k) (awaited g s f c).rule)
         ∙ rule (checking k) g (slot_at g s) (body f) c (slot_at g s).stage refl (none_holds tests e).1.1.1.1.1
         ∙ ap (λ (x : Check). and_then x (checked rules)) (sym e)
-    by (Refuse r) e = ap ends e ∙ ap (λ (x : Check). and_then x (checked rules)) (sym e)
+    by (Err r) e = ap ends e ∙ ap (λ (x : Check). and_then x (checked rules)) (sym e)
 
 pub given_exactly : GivenExactly
 given_exactly =
@@ -207,36 +198,36 @@ flaw (suc n) lowest = Missing (suc n) lowest
 -- the refusals in the order of their numbers; 7 and 8 are the mapper's
 abbrev by_number : FlagFlaw → List Check
 by_number w =
-    Pass ∷ Refuse OutputTooShort ∷ Refuse SlotNotTaken ∷ Refuse NotAFrame ∷ Refuse UnknownTag ∷ Refuse BadLength ∷ Refuse BadName ∷ Pass ∷ Pass
-    ∷ Refuse (BadFlags w) ∷ Refuse AlreadyConnected ∷ Refuse BadCookie ∷ Refuse PeerTaken ∷ Refuse NoFreeSlot ∷ Refuse UnknownStatus
-    ∷ Refuse WrongDigest ∷ Refuse Declined ∷ []
+    Ok tt ∷ Err OutputTooShort ∷ Err SlotNotTaken ∷ Err NotAFrame ∷ Err UnknownTag ∷ Err BadLength ∷ Err BadName ∷ Ok tt ∷ Ok tt
+    ∷ Err (BadFlags w) ∷ Err AlreadyConnected ∷ Err BadCookie ∷ Err PeerTaken ∷ Err NoFreeSlot ∷ Err UnknownStatus
+    ∷ Err WrongDigest ∷ Err Declined ∷ []
 
 abbrev numbered : Why → Check
-numbered y = get_or (by_number (flaw y.missing y.lowest)) y.number Pass
+numbered y = get_or (by_number (flaw y.missing y.lowest)) y.number (Ok tt)
 
 -- the test tells at least one bit where it tells of missing ones
-flaw_back : (f : ℕ) (w : FlagFlaw) → flag_test f ≡ Bad w → flaw (flaw_count w) (flaw_bit w) ≡ w
+flaw_back : (f : ℕ) (w : FlagFlaw) → flag_test f ≡ Err w → flaw (flaw_count w) (flaw_bit w) ≡ w
 unfolding flag_test
 flaw_back f NameMe e = refl
 flaw_back f (Missing (suc n) i) e = refl
 flaw_back f (Missing zero i) e = absurd (omega (arith, (counts (missing required f) (bit name_me f) 0 i e).0))
 
 back : (x : Check) → Givable x → numbered (check_why x) ≡ x
-back Pass g = refl
-back (Refuse OutputTooShort) g = refl
-back (Refuse SlotNotTaken) g = refl
-back (Refuse NotAFrame) g = refl
-back (Refuse UnknownTag) g = refl
-back (Refuse BadLength) g = refl
-back (Refuse BadName) g = refl
-back (Refuse (BadFlags w)) g = ap (λ (v : FlagFlaw). Refuse (BadFlags v)) (flaw_back (g w refl).0 w (g w refl).1)
-back (Refuse AlreadyConnected) g = refl
-back (Refuse BadCookie) g = refl
-back (Refuse PeerTaken) g = refl
-back (Refuse NoFreeSlot) g = refl
-back (Refuse UnknownStatus) g = refl
-back (Refuse WrongDigest) g = refl
-back (Refuse Declined) g = refl
+back (Ok _) g = refl
+back (Err OutputTooShort) g = refl
+back (Err SlotNotTaken) g = refl
+back (Err NotAFrame) g = refl
+back (Err UnknownTag) g = refl
+back (Err BadLength) g = refl
+back (Err BadName) g = refl
+back (Err (BadFlags w)) g = ap (λ (v : FlagFlaw). Err (BadFlags v)) (flaw_back (g w refl).0 w (g w refl).1)
+back (Err AlreadyConnected) g = refl
+back (Err BadCookie) g = refl
+back (Err PeerTaken) g = refl
+back (Err NoFreeSlot) g = refl
+back (Err UnknownStatus) g = refl
+back (Err WrongDigest) g = refl
+back (Err Declined) g = refl
 
 pub numbers_apart : NumbersApart
 numbers_apart x y p q e = sym (back x p) ∙ ap numbered e ∙ back y q

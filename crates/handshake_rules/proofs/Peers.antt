@@ -1,4 +1,5 @@
 -- Two slots that have one peer are one connected and one accepted in progress, in every endpoint that making and calls give. Assumes nothing.
+use Rattle.std.specs.Prelude.{None, Some}
 use Prim.Native.Nat.{ℕ, ◌<◌, ◌≤◌}
 use mathlib.Core.Path.{◌≡◌, refl, sym, ◌∙◌, ap, subst}
 use mathlib.Core.Logic.{◌⊎◌, inl, inr, ⊎_map, ⊎_elim}
@@ -17,10 +18,8 @@ use Rattle.names.proofs.HeldLaws.{name_back}
 use Rattle.handshake_rules.specs.declared.endpoint.Stage.{Stage}
 use Rattle.handshake_rules.specs.declared.endpoint.Stage.TheVariants.{Free, AwaitsName, AwaitsAlive, AwaitsReply, AwaitsStatus, AwaitsChallenge, AwaitsAck, Connected}
 use Rattle.handshake_rules.specs.declared.endpoint.Slot.{Slot}
-use Rattle.handshake_rules.specs.State.{Endpoint}
+use Rattle.handshake_rules.specs.State.{Endpoint, Freed}
 use Rattle.handshake_rules.specs.declared.endpoint.Sought.TheVariants.{AnyTaken, AcceptedFrom, StartedTo, ConnectedTo}
-use Rattle.handshake_rules.specs.declared.endpoint.Freed.{Freed}
-use Rattle.handshake_rules.specs.declared.endpoint.Freed.TheVariants.{Nothing, At}
 use Rattle.handshake_rules.specs.declared.accepting.Greeting.TheVariants.{NotAllowed, Nok, Alive, Ok}
 use Rattle.handshake_rules.specs.declared.connecting.Reaction.{Reaction}
 use Rattle.handshake_rules.specs.declared.connecting.Reaction.TheVariants.{Proceed, Confirm, GiveUp, Unknown}
@@ -88,8 +87,8 @@ apart_freed : (g : Endpoint) (s : ℕ) → Apart g → Apart (freed g s)
 apart_freed g s a = apart_put g s free_slot a (λ e. no_peer) (λ j n. lone free_slot (slot_at g j) no_peer)
 
 apart_other : (g : Endpoint) (o : Freed) → Apart g → Apart (free_other g o)
-apart_other g Nothing a = a
-apart_other g (At s) a = apart_freed g s a
+apart_other g None a = a
+apart_other g (Some s) a = apart_freed g s a
 
 -- another record of the same kind and peer
 fine_like : (x y z : Slot) → peer y ≡ peer x → kind_of y ≡ kind_of x → Fine x z → Fine y z

@@ -1,5 +1,6 @@
 -- What is written is read back as the same fields: each message by the law of layouts, and an output of several frames by the law of frames.
 -- Assumes nothing.
+use Rattle.std.specs.Prelude.{Ok}
 use Prim.Native.Nat.{ℕ, ◌+◌}
 use mathlib.Core.Path.{◌≡◌, refl, sym, ◌∙◌, ap}
 use mathlib.Core.Bool.{true}
@@ -15,8 +16,6 @@ use Rattle.wire.proofs.RunLaws.{same_decides}
 use Rattle.wire.proofs.FrameLaws.{frame_of, framed_length}
 use Rattle.wire.proofs.LayoutLaws.{layout_back, be_at_behind}
 use Rattle.names.specs.Full.{full_name}
-use Rattle.handshake_rules.specs.declared.refusal.Check.TheVariants.{Pass}
-use Rattle.handshake_rules.specs.declared.flags.FlagTest.TheVariants.{Good}
 use Rattle.handshake_rules.specs.Refusals.{checked}
 use Rattle.handshake_rules.specs.Flags.{flag_test}
 use Rattle.handshake_rules.specs.Messages.{name_l, challenge_l, status_l, reply_l, ack_l, name_tag, status_tag, reply_tag, ack_tag, tag_of, name_message, challenge_message, status_message, reply_message, ack_message, challenge_name}
@@ -26,7 +25,7 @@ use Rattle.handshake_rules.proofs.FlagLaws.{test_good}
 use Rattle.handshake_rules.proofs.MessageLaws.{full_short, name_size, challenge_size, status_size, reply_size, ack_size}
 
 -- a form all of whose tests are met passes
-passes_all : (f : Form) → f.served ≡ true → f.fits ≡ true → f.named ≡ true → f.flags ≡ Good → checked (form_tests f) ≡ Pass
+passes_all : (f : Form) → f.served ≡ true → f.fits ≡ true → f.named ≡ true → f.flags ≡ Ok tt → checked (form_tests f) ≡ Ok tt
 passes_all f a b c d = rw (a, b, c, d)
 
 -- the frame of a layout's fields, read by that layout

@@ -1,5 +1,6 @@
 -- Whatever is not yet recorded is zero or empty, and all of a free slot; a recorded peer is a full name, with zero behind it: in every endpoint that
 -- making and calls give. Assumes nothing.
+use Rattle.std.specs.Prelude.{None, Some}
 use Prim.Native.Nat.{ℕ}
 use mathlib.Core.Path.{◌≡◌, refl, sym, ◌∙◌, ap, subst}
 use mathlib.Core.Logic.{⊎_elim}
@@ -10,9 +11,7 @@ use Rattle.wire.specs.Frame.{body}
 use Rattle.handshake_rules.specs.declared.endpoint.Stage.{Stage}
 use Rattle.handshake_rules.specs.declared.endpoint.Stage.TheVariants.{Free, AwaitsName, AwaitsAlive, AwaitsReply, AwaitsStatus, AwaitsChallenge, AwaitsAck, Connected}
 use Rattle.handshake_rules.specs.declared.endpoint.Slot.{Slot}
-use Rattle.handshake_rules.specs.State.{Endpoint}
-use Rattle.handshake_rules.specs.declared.endpoint.Freed.{Freed}
-use Rattle.handshake_rules.specs.declared.endpoint.Freed.TheVariants.{Nothing, At}
+use Rattle.handshake_rules.specs.State.{Endpoint, Freed}
 use Rattle.handshake_rules.specs.declared.accepting.Greeting.{Greeting}
 use Rattle.handshake_rules.specs.declared.accepting.Greeting.TheVariants.{NotAllowed, Nok, OkSimultaneous, Alive, Ok}
 use Rattle.handshake_rules.specs.declared.connecting.Reaction.{Reaction}
@@ -65,8 +64,8 @@ each_put : (g : Endpoint) (s : ℕ) (x : Slot) → Each g → Holds x → Each (
 each_put g s x h b i = ⊎_elim (λ e. subst Holds (sym e) (h i)) (λ e. subst Holds (sym e.1) b) (put_at g s x i)
 
 each_other : (g : Endpoint) (o : Freed) → Each g → Each (free_other g o)
-each_other g Nothing h = h
-each_other g (At s) h = each_put g s free_slot h free_holds
+each_other g None h = h
+each_other g (Some s) h = each_put g s free_slot h free_holds
 
 -- what a plan records is bare
 abbrev Acts : Plan → Type 0

@@ -1,4 +1,5 @@
 -- A refused call writes nothing, and keeps the endpoint or frees exactly the slot named, as its number says. Assumes nothing.
+use Rattle.std.specs.Prelude.{Err}
 use Prim.Native.Nat.{ℕ}
 use mathlib.Core.Path.{◌≡◌, refl, ◌∙◌, ap}
 use mathlib.Core.Bool.{Bool, true, false}
@@ -11,7 +12,6 @@ use Rattle.wire.proofs.OutputLaws.{written_none}
 use Rattle.handshake_rules.specs.declared.refusal.Refusal.{Refusal}
 use Rattle.handshake_rules.specs.declared.refusal.Refusal.TheVariants.{WrongDigest}
 use Rattle.handshake_rules.specs.State.{Endpoint}
-use Rattle.handshake_rules.specs.declared.endpoint.Answer.TheVariants.{Refused}
 use Rattle.handshake_rules.specs.Refusals.{message_fate}
 use Rattle.handshake_rules.specs.Endpoint.{slot_at}
 use Rattle.handshake_rules.specs.Cookie.{Cookies, checking, writing, fit, digest_of}
@@ -23,7 +23,7 @@ use Rattle.handshake_rules.proofs.CheckLaws.{unless_elim}
 
 -- if it is refused, nothing is written, and h is left
 abbrev Quiet : Refusal → Endpoint → Done → Type 0
-Quiet r h d = d.told.answer ≡ Refused r → (d.bytes ≡ []) × (d.told.endpoint ≡ h)
+Quiet r h d = d.told.answer ≡ Err r → (d.bytes ≡ []) × (d.told.endpoint ≡ h)
 
 module _ (i w : List ℕ) (g : Endpoint) (s : ℕ) (r : Refusal) where
   stop_quiet : (q : Refusal) → Quiet r (spared g s (message_fate r)) (refused g s q)

@@ -11,6 +11,7 @@ use mathlib.Core.List.{List, [], ◌∷◌}
 use native.Mathlib.Omega.{arith}
 use lib.ListN.{length, get_or, set, replicate}
 use lib.Seq.{get_or-set_same, get_or-set_other}
+use Rattle.std.proofs.lemmas.List.{get_or_past, set_past}
 use lib.Dec.{ltb, eqb}
 use borrow.Author.Tests.{ltb-true, ltb-false, le-ltb, ne_eqb, eqb-true}
 use Rattle.wire.proofs.LookupLaws.{first_passes, first_before}
@@ -54,16 +55,6 @@ module _ {A : Type 0} where
   blank_at (suc n) zero d = refl
   blank_at (suc n) (suc i) d = blank_at n i d
 
-  past : (l : List A) (j : ℕ) (d : A) → length l ≤ j → get_or l j d ≡ d
-  past [] j d h = refl
-  past (x ∷ l) zero d h = absurd (omega arith)
-  past (x ∷ l) (suc j) d h = past l j d (omega arith)
-
-  set_past : (l : List A) (s : ℕ) (x : A) → length l ≤ s → set l s x ≡ l
-  set_past [] s x h = refl
-  set_past (y ∷ l) zero x h = absurd (omega arith)
-  set_past (y ∷ l) (suc s) x h = ap (λ (r : List A). y ∷ r) (set_past l s x (omega arith))
-
 -- ---- slots by their number
 
 -- a slot after a change is what it was, or what was put there
@@ -82,20 +73,16 @@ blank n f c i = blank_at 32 i free_slot
 
 -- past the last slot
 pub past_last : (g : Endpoint) (j : ℕ) → length g.slots ≤ j → slot_at g j ≡ free_slot
-past_last g j h = past g.slots j free_slot h
+past_last g j h = get_or_past g.slots j free_slot h
+
+pub put_past : (g : Endpoint) (j : ℕ) (x : Slot) → length g.slots ≤ j → put g j x ≡ g
+put_past g j x h =
+    ap (λ (l : List Slot). record { name = g.name; flags = g.flags; creation = g.creation; slots = l }) (set_past g.slots j x h)
 
 -- ---- as the code reads and changes slots
 
--- a refusal past the last slot, one that keeps and one that frees
+-- a refusal that keeps, and one that frees
 module _ (g : Endpoint) (s : ℕ) (r : Refusal) where
-  pub spared_past : length g.slots ≤ s → spared g s (message_fate r) ≡ g
-  spared_past h = by (message_fate r) where
-    by : (x : Fate) → spared g s x ≡ g
-    by keep = refl
-    by free =
-        ap (λ (l : List Slot). record { name = g.name; flags = g.flags; creation = g.creation; slots = l })
-        (set_past g.slots s free_slot h)
-
   pub spared_kept : is_free (message_fate r) ≡ false → spared g s (message_fate r) ≡ g
   spared_kept = by (message_fate r) where
     by : (x : Fate) → is_free x ≡ false → spared g s x ≡ g

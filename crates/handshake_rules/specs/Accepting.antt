@@ -1,17 +1,15 @@
 -- 01, The gate, "Message on a slot, by stage": the stages of a connection that arrived.
-use Rattle.std.specs.Prelude.{ℕ, Bool, true, false, cond, List, [], ◌++◌}
-use Rattle.wire.specs.declared.run.Order.{Order}
-use Rattle.wire.specs.declared.run.Order.TheVariants.{Less, Equal, Greater}
+use Rattle.std.specs.Prelude.{ℕ, Bool, true, false, cond, List, [], ◌++◌, None, Some}
+use Rattle.std.specs.declared.cmp.Ordering.{Ordering}
+use Rattle.std.specs.declared.cmp.Ordering.TheVariants.{Less, Equal, Greater}
 use Rattle.wire.specs.Run.{same_bytes, order}
 use Rattle.names.specs.Held.{name_of, name_bytes}
 use Rattle.handshake_rules.specs.declared.refusal.Refusal.TheVariants.{UnknownStatus}
 use Rattle.handshake_rules.specs.declared.endpoint.Stage.{Stage}
 use Rattle.handshake_rules.specs.declared.endpoint.Stage.TheVariants.{AwaitsAlive, AwaitsReply, Connected}
 use Rattle.handshake_rules.specs.declared.endpoint.Slot.{Slot}
-use Rattle.handshake_rules.specs.State.{Endpoint}
+use Rattle.handshake_rules.specs.State.{Endpoint, Freed}
 use Rattle.handshake_rules.specs.declared.endpoint.Sought.TheVariants.{AcceptedFrom, StartedTo, ConnectedTo}
-use Rattle.handshake_rules.specs.declared.endpoint.Freed.{Freed}
-use Rattle.handshake_rules.specs.declared.endpoint.Freed.TheVariants.{Nothing, At}
 use Rattle.handshake_rules.specs.declared.accepting.Greeting.{Greeting}
 use Rattle.handshake_rules.specs.declared.accepting.Greeting.TheVariants.{NotAllowed, Nok, OkSimultaneous, Alive, Ok}
 use Rattle.handshake_rules.specs.Endpoint.{free_slot, lowest, is_slot, freed_at}
@@ -21,7 +19,7 @@ use Rattle.handshake_rules.specs.Plans.{ack, Plan, proven, does, fails, Expected
 
 -- ---- awaits name
 
-abbrev pub is_greater : Order → Bool
+abbrev pub is_greater : Ordering → Bool
 is_greater Less = false
 is_greater Equal = false
 is_greater Greater = true
@@ -44,7 +42,7 @@ abbrev pub heard : List ℕ → ℕ → ℕ → Stage → ℕ → Slot
 heard n f k st c = record { stage = st; name = name_of n; flags = f; creation = k; challenge = c }
 
 abbrev pub turn_away : List ℕ → Plan
-turn_away word = does free_slot Nothing (status_message word)
+turn_away word = does free_slot None (status_message word)
 
 -- "After ok and ok_simultaneous the challenge message follows in the same output, with the challenge lent to this call; awaits reply."
 abbrev pub welcomes : Endpoint → List ℕ → ℕ → List ℕ
@@ -54,9 +52,9 @@ welcomes g word c = status_message word ++ challenge_of g c
 abbrev pub on_name : Endpoint → List ℕ → ℕ → ℕ → ℕ → Greeting → Plan
 on_name g n f k c NotAllowed = turn_away not_allowed
 on_name g n f k c Nok = turn_away nok
-on_name g n f k c (OkSimultaneous mine) = does (heard n f k AwaitsReply c) (At mine) (welcomes g ok_simultaneous c)
-on_name g n f k c Alive = does (heard n f k AwaitsAlive 0) Nothing (status_message alive)
-on_name g n f k c Ok = does (heard n f k AwaitsReply c) Nothing (welcomes g ok c)
+on_name g n f k c (OkSimultaneous mine) = does (heard n f k AwaitsReply c) (Some mine) (welcomes g ok_simultaneous c)
+on_name g n f k c Alive = does (heard n f k AwaitsAlive 0) None (status_message alive)
+on_name g n f k c Ok = does (heard n f k AwaitsReply c) None (welcomes g ok c)
 
 abbrev pub expect_name : Endpoint → ℕ → List ℕ → Expected
 expect_name g c b =
@@ -70,8 +68,8 @@ expect_name g c b =
 -- "true: challenge written as after ok, awaits reply. false: freed, nothing written; this is an answer and no refusal. Any other word: 14."
 abbrev pub on_alive : Endpoint → Slot → ℕ → List ℕ → Plan
 on_alive g sl c w =
-    cond (same_bytes w true_word) (does (sent sl AwaitsReply c) Nothing (challenge_of g c))
-    (cond (same_bytes w false_word) (does free_slot Nothing []) (fails UnknownStatus))
+    cond (same_bytes w true_word) (does (sent sl AwaitsReply c) None (challenge_of g c))
+    (cond (same_bytes w false_word) (does free_slot None []) (fails UnknownStatus))
 
 abbrev pub expect_alive : Endpoint → Slot → ℕ → List ℕ → Expected
 expect_alive g sl c b = record { form = status_form b; rule = on_alive g sl c (status_word b) }

@@ -1,20 +1,18 @@
 -- The calls: making, start, arrive, close and message. Each gives its answer, the endpoint after it and the bytes that it writes.
-use Rattle.std.specs.Prelude.{ℕ, ◌≤◌, Bool, true, false, not, ◌||◌, List, [], ◌∷◌, ◌++◌, length, leb, ltb, eqb}
+use Rattle.std.specs.Prelude.{ℕ, ◌≤◌, Bool, true, false, not, ◌||◌, List, [], ◌∷◌, ◌++◌, length, leb, ltb, eqb, Ok, Err}
 use Rattle.wire.specs.Run.{same_bytes}
 use Rattle.wire.specs.Frame.{is_frame, body}
 use Rattle.names.specs.Held.{name_of, name_bytes}
 use Rattle.names.specs.Full.{full_name}
 use Rattle.handshake_rules.specs.declared.refusal.Refusal.{Refusal}
 use Rattle.handshake_rules.specs.declared.refusal.Refusal.TheVariants.{OutputTooShort, SlotNotTaken, NotAFrame, UnknownTag, BadName, AlreadyConnected, BadCookie, PeerTaken, NoFreeSlot}
-use Rattle.handshake_rules.specs.declared.flags.FlagTest.TheVariants.{Good}
 use Rattle.handshake_rules.specs.declared.endpoint.Stage.{Stage}
 use Rattle.handshake_rules.specs.declared.endpoint.Stage.TheVariants.{Free, AwaitsName, AwaitsAlive, AwaitsReply, AwaitsStatus, AwaitsChallenge, AwaitsAck, Connected}
 use Rattle.handshake_rules.specs.declared.endpoint.Slot.{Slot}
 use Rattle.handshake_rules.specs.State.{Endpoint}
 use Rattle.handshake_rules.specs.declared.endpoint.Sought.TheVariants.{AnyTaken}
-use Rattle.handshake_rules.specs.declared.endpoint.Making.TheVariants.{Ready, NotMade}
 use Rattle.handshake_rules.specs.State.{Made}
-use Rattle.handshake_rules.specs.declared.endpoint.Answer.TheVariants.{Refused, Begun, Arrived, Closed}
+use Rattle.handshake_rules.specs.declared.endpoint.Answer.TheVariants.{Begun, Arrived, Closed}
 use Rattle.handshake_rules.specs.State.{Told}
 use Rattle.handshake_rules.specs.Refusals.{Test, ◌given-if◌, checked, unless}
 use Rattle.handshake_rules.specs.Flags.{flag_test}
@@ -34,10 +32,10 @@ new_tests n f = BadName given-if not (full_name n) ∷ flag_tests (flag_test f)
 
 -- beside a refusal stands an endpoint that has no name and no flags
 abbrev pub not_made : Refusal → Made
-not_made r = record { making = NotMade r; endpoint = fresh [] 0 0 }
+not_made r = record { making = Err r; endpoint = fresh [] 0 0 }
 
 unfoldable pub new_of : List ℕ → ℕ → ℕ → Made
-new_of n f c = unless not_made (record { making = Ready; endpoint = fresh n f c }) (checked (new_tests n f))
+new_of n f c = unless not_made (record { making = Ok tt; endpoint = fresh n f c }) (checked (new_tests n f))
 
 -- ---- start, arrive, close
 
@@ -51,7 +49,7 @@ Roomy out = room ≤ length out
 
 -- a refusal that keeps everything
 abbrev pub kept : Endpoint → Refusal → Told
-kept g r = record { answer = Refused r; endpoint = g }
+kept g r = record { answer = Err r; endpoint = g }
 
 abbrev pub opened : Stage → List ℕ → Slot
 opened st n = record { stage = st; name = name_of n; flags = 0; creation = 0; challenge = 0 }
@@ -72,7 +70,7 @@ abbrev pub begun : Endpoint → List ℕ → Done
 begun g n =
     record {
       told = record {
-        answer = Begun (lowest_free g) (length (name_out g));
+        answer = Ok (Begun (lowest_free g) (length (name_out g)));
         endpoint = put g (lowest_free g) (opened AwaitsStatus n);
       };
       bytes = name_out g;
@@ -89,7 +87,7 @@ abbrev pub arrive_tests : Endpoint → List Test
 arrive_tests g = NoFreeSlot given-if not (is_slot (lowest_free g)) ∷ []
 
 abbrev pub arrived : Endpoint → Told
-arrived g = record { answer = Arrived (lowest_free g); endpoint = put g (lowest_free g) (opened AwaitsName []) }
+arrived g = record { answer = Ok (Arrived (lowest_free g)); endpoint = put g (lowest_free g) (opened AwaitsName []) }
 
 unfoldable pub arrive_of : Endpoint → Told
 arrive_of g = unless (kept g) (arrived g) (checked (arrive_tests g))
@@ -99,13 +97,13 @@ abbrev pub close_tests : Endpoint → ℕ → List Test
 close_tests g s = SlotNotTaken given-if vacant g s ∷ []
 
 unfoldable pub close_of : Endpoint → ℕ → Told
-close_of g s = unless (kept g) (record { answer = Closed; endpoint = freed g s }) (checked (close_tests g s))
+close_of g s = unless (kept g) (record { answer = Ok Closed; endpoint = freed g s }) (checked (close_tests g s))
 
 -- ---- message
 
 -- no message is served on a free or a connected slot
 abbrev pub nothing : Expected
-nothing = record { form = record { served = false; fits = true; named = true; flags = Good }; rule = fails UnknownTag }
+nothing = record { form = record { served = false; fits = true; named = true; flags = Ok tt }; rule = fails UnknownTag }
 
 -- g: the endpoint; sl: the slot's record; c: the challenge lent to this call; b: the body
 unfoldable pub expected : Endpoint → Slot → ℕ → List ℕ → Stage → Expected

@@ -1,6 +1,6 @@
 -- What is proved of the calls' definitions, beside the contracts that are equations with them; of slots in SlotClaims, of messages in MessageClaims, of
 -- refusals in NumberClaims, of flags in FlagClaims, of the digest in DigestClaims. Each claim names the theorem in proofs/ that is its proof.
-use Rattle.std.specs.Prelude.{ℕ, ◌≤◌, ◌≡◌, Bool, true, false, List, [], ◌∷◌, map, length}
+use Rattle.std.specs.Prelude.{ℕ, ◌≤◌, ◌≡◌, Bool, true, false, List, [], ◌∷◌, map, length, Ok, Err}
 use Rattle.std.proofs.Math.Option.{Option, none, some}
 use Rattle.wire.specs.Run.{same_bytes}
 use Rattle.wire.specs.Frame.{body}
@@ -10,9 +10,8 @@ use Rattle.handshake_rules.specs.declared.refusal.Refusal.{Refusal}
 use Rattle.handshake_rules.specs.declared.endpoint.Stage.{Stage}
 use Rattle.handshake_rules.specs.declared.endpoint.Stage.TheVariants.{Free, AwaitsName, AwaitsAlive, AwaitsReply, AwaitsStatus, AwaitsChallenge, AwaitsAck, Connected}
 use Rattle.handshake_rules.specs.declared.endpoint.Slot.{Slot}
-use Rattle.handshake_rules.specs.State.{Endpoint}
-use Rattle.handshake_rules.specs.declared.endpoint.Freed.{Freed}
-use Rattle.handshake_rules.specs.declared.endpoint.Answer.TheVariants.{Refused, Closed, Answered}
+use Rattle.handshake_rules.specs.State.{Endpoint, Freed}
+use Rattle.handshake_rules.specs.declared.endpoint.Answer.TheVariants.{Closed, Answered}
 use Rattle.handshake_rules.specs.Refusals.{message_fate, Test, ◌given-if◌, checked, unless}
 use Rattle.handshake_rules.specs.Flags.{good_flags}
 use Rattle.handshake_rules.specs.Endpoint.{fresh, slot_at, put, freed, free_other}
@@ -80,7 +79,7 @@ after g (Message s f c out) r = spared g s (message_fate r)
 -- a refused call writes nothing, and keeps the endpoint or frees exactly the slot named, as its number says (Refused.refused_quietly)
 abbrev pub RefusedQuietly : Type 0
 RefusedQuietly =
-    (k : Cookies) (g : Endpoint) (c : Call) (r : Refusal) → (step g c k).told.answer ≡ Refused r
+    (k : Cookies) (g : Endpoint) (c : Call) (r : Refusal) → (step g c k).told.answer ≡ Err r
     → ((step g c k).bytes ≡ []) × (left g c k ≡ lent c) × (next g c k ≡ after g c r)
 
 -- ---- what holds of every endpoint that making and calls give
@@ -120,7 +119,7 @@ abbrev pub ArrivedUnrefused : Type 0
 ArrivedUnrefused = (g : Endpoint) → NoneHolds (arrive_tests g) → arrive_of g ≡ arrived g
 
 abbrev pub ClosedUnrefused : Type 0
-ClosedUnrefused = (g : Endpoint) (s : ℕ) → NoneHolds (close_tests g s) → close_of g s ≡ record { answer = Closed; endpoint = freed g s }
+ClosedUnrefused = (g : Endpoint) (s : ℕ) → NoneHolds (close_tests g s) → close_of g s ≡ record { answer = Ok Closed; endpoint = freed g s }
 
 -- and a message is its stage's rule (Answers.message_unrefused)
 abbrev pub MessageUnrefused : Type 0
@@ -139,7 +138,7 @@ pub record Tells (g : Endpoint) (s : ℕ) (st : Stage) (o : Freed) (after : Endp
 abbrev pub AnswerTells : Type 0
 AnswerTells =
     (k : Cookies) (g : Endpoint) (s : ℕ) (f : List ℕ) (c size : ℕ) (st : Stage) (o : Freed) (count : ℕ)
-    → (message_of k g s f c size).told.answer ≡ Answered st o count → Tells g s st o (message_of k g s f c size).told.endpoint
+    → (message_of k g s f c size).told.answer ≡ Ok (Answered st o count) → Tells g s st o (message_of k g s f c size).told.endpoint
 
 -- ---- all of it (Promises.promises): a claim that is not proved is missed here
 pub record Promises : Type 0 where

@@ -1,11 +1,10 @@
 -- 01, The gate, "Message on a slot, by stage": the stages of an attempt that we started.
-use Rattle.std.specs.Prelude.{ℕ, cond, ◌||◌, List, []}
+use Rattle.std.specs.Prelude.{ℕ, cond, ◌||◌, List, [], None}
 use Rattle.wire.specs.Run.{same_bytes}
 use Rattle.names.specs.Held.{name_bytes}
 use Rattle.handshake_rules.specs.declared.refusal.Refusal.TheVariants.{UnknownStatus, Declined}
 use Rattle.handshake_rules.specs.declared.endpoint.Stage.TheVariants.{AwaitsChallenge, AwaitsAck, Connected}
 use Rattle.handshake_rules.specs.declared.endpoint.Slot.{Slot}
-use Rattle.handshake_rules.specs.declared.endpoint.Freed.TheVariants.{Nothing}
 use Rattle.handshake_rules.specs.declared.connecting.Reaction.{Reaction}
 use Rattle.handshake_rules.specs.declared.connecting.Reaction.TheVariants.{Proceed, Confirm, GiveUp, Unknown}
 use Rattle.handshake_rules.specs.Forms.{status_form, challenge_form, ack_form}
@@ -23,8 +22,8 @@ reaction w =
 
 -- "ok, ok_simultaneous: awaits challenge. alive: writes status true, awaits challenge. nok, not_allowed: 16. Any other word: 14."
 abbrev pub on_status : Slot → Reaction → Plan
-on_status sl Proceed = does (moved sl AwaitsChallenge) Nothing []
-on_status sl Confirm = does (moved sl AwaitsChallenge) Nothing (status_message true_word)
+on_status sl Proceed = does (moved sl AwaitsChallenge) None []
+on_status sl Confirm = does (moved sl AwaitsChallenge) None (status_message true_word)
 on_status sl GiveUp = fails Declined
 on_status sl Unknown = fails UnknownStatus
 
@@ -43,7 +42,7 @@ abbrev pub expect_challenge : Slot → ℕ → List ℕ → Expected
 expect_challenge sl c b =
     record {
       form = challenge_form (name_bytes sl.name) b;
-      rule = sure (go (record { slot = challenged sl c b; other = Nothing; writes = reply c (challenge_challenge b) }));
+      rule = sure (go (record { slot = challenged sl c b; other = None; writes = reply c (challenge_challenge b) }));
     }
 
 -- ---- awaits acknowledgement
@@ -53,5 +52,5 @@ abbrev pub expect_ack : Slot → List ℕ → Expected
 expect_ack sl b =
     record {
       form = ack_form b;
-      rule = proven sl.challenge (ack_digest b) (record { slot = moved sl Connected; other = Nothing; writes = plain [] });
+      rule = proven sl.challenge (ack_digest b) (record { slot = moved sl Connected; other = None; writes = plain [] });
     }

@@ -1,5 +1,5 @@
 -- What an endpoint (01's gate) holds, and how its slots are looked up. The types are the code's own.
-use Rattle.std.specs.Prelude.{ℕ, Bool, true, false, ◌&&◌, ◌||◌, not, cond, List, [], get_or, set, replicate, leb, ltb, eqb}
+use Rattle.std.specs.Prelude.{ℕ, Bool, true, false, ◌&&◌, ◌||◌, not, cond, List, [], get_or, set, replicate, leb, ltb, eqb, None, Some}
 use Rattle.wire.specs.Run.{same_bytes}
 use Rattle.wire.specs.Lookup.{first_at}
 use Rattle.names.specs.declared.held.Name.{Name}
@@ -7,11 +7,9 @@ use Rattle.names.specs.Held.{name_of, name_bytes}
 use Rattle.handshake_rules.specs.declared.endpoint.Stage.{Stage}
 use Rattle.handshake_rules.specs.declared.endpoint.Stage.TheVariants.{Free, AwaitsName, AwaitsAlive, AwaitsReply, AwaitsStatus, AwaitsChallenge, AwaitsAck, Connected}
 use Rattle.handshake_rules.specs.declared.endpoint.Slot.{Slot}
-use Rattle.handshake_rules.specs.State.{Endpoint}
+use Rattle.handshake_rules.specs.State.{Endpoint, Freed}
 use Rattle.handshake_rules.specs.declared.endpoint.Sought.{Sought}
 use Rattle.handshake_rules.specs.declared.endpoint.Sought.TheVariants.{AnyFree, AcceptedFrom, StartedTo, ConnectedTo, AnyTaken}
-use Rattle.handshake_rules.specs.declared.endpoint.Freed.{Freed}
-use Rattle.handshake_rules.specs.declared.endpoint.Freed.TheVariants.{Nothing, At}
 
 -- "all of a free slot is zero or empty"
 abbrev pub free_slot : Slot
@@ -83,8 +81,8 @@ abbrev pub freed : Endpoint → ℕ → Endpoint
 freed g s = put g s free_slot
 
 abbrev pub free_other : Endpoint → Freed → Endpoint
-free_other g Nothing = g
-free_other g (At s) = freed g s
+free_other g None = g
+free_other g (Some s) = freed g s
 
 -- "slot number ≥ 32, or slot free"
 abbrev pub vacant : Endpoint → ℕ → Bool
@@ -122,5 +120,5 @@ lowest_free g = lowest AnyFree [] g
 
 -- another slot that is freed, if there is one at that number
 abbrev pub freed_at : ℕ → Bool → Freed
-freed_at i true = At i
-freed_at i false = Nothing
+freed_at i true = Some i
+freed_at i false = None

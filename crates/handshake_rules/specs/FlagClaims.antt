@@ -1,19 +1,15 @@
 -- What is proved of the flag test (02, P3), and of what refusal 9 carries (proofs/FlagLaws, proofs/Nine).
-use Rattle.std.specs.Prelude.{ℕ, zero, suc, ◌+◌, ◌≤◌, ◌<◌, ◌≡◌, Bool, true, false, cond, ◌&&◌, ◌||◌, not, List, [], ◌∷◌, eqb}
+use Rattle.std.specs.Prelude.{ℕ, zero, suc, ◌+◌, ◌≤◌, ◌<◌, ◌≡◌, Bool, true, false, cond, ◌&&◌, ◌||◌, not, List, [], ◌∷◌, eqb, Ok, Err}
 use Rattle.wire.specs.Frame.{body}
 use Rattle.handshake_rules.specs.declared.flags.FlagFlaw.{FlagFlaw}
 use Rattle.handshake_rules.specs.declared.flags.FlagFlaw.TheVariants.{Missing, NameMe}
-use Rattle.handshake_rules.specs.declared.flags.FlagTest.{FlagTest}
-use Rattle.handshake_rules.specs.declared.flags.FlagTest.TheVariants.{Good, Bad}
 use Rattle.handshake_rules.specs.declared.refusal.Why.{Why}
 use Rattle.handshake_rules.specs.declared.refusal.Refusal.TheVariants.{BadFlags}
 use Rattle.handshake_rules.specs.declared.endpoint.Stage.{Stage}
 use Rattle.handshake_rules.specs.declared.endpoint.Stage.TheVariants.{Free, AwaitsName, AwaitsAlive, AwaitsReply, AwaitsStatus, AwaitsChallenge, AwaitsAck, Connected}
-use Rattle.handshake_rules.specs.declared.endpoint.Making.TheVariants.{NotMade}
-use Rattle.handshake_rules.specs.declared.endpoint.Answer.TheVariants.{Refused}
 use Rattle.handshake_rules.specs.State.{Endpoint}
 use Rattle.handshake_rules.specs.Refusals.{only}
-use Rattle.handshake_rules.specs.Flags.{bit, required, name_me, good_flags, flag_test}
+use Rattle.handshake_rules.specs.Flags.{bit, required, name_me, good_flags, flag_test, FlagTest}
 use Rattle.handshake_rules.specs.Endpoint.{slot_at}
 use Rattle.handshake_rules.specs.Answers.{making_why, numbers_of}
 use Rattle.handshake_rules.specs.Messages.{name_flags, challenge_flags}
@@ -47,9 +43,9 @@ NoneMissing f = (i : ℕ) → Required i → bit i f ≡ true
 
 -- what an answer says of the flags that were tested; bit 33 is told only where none is missing: "missing bits are told first"
 abbrev pub Says : ℕ → FlagTest → Type 0
-Says f Good = NoneMissing f × (bit name_me f ≡ false)
-Says f (Bad NameMe) = NoneMissing f × (bit name_me f ≡ true)
-Says f (Bad (Missing count lowest)) = Lacks f count lowest
+Says f (Ok _) = NoneMissing f × (bit name_me f ≡ false)
+Says f (Err NameMe) = NoneMissing f × (bit name_me f ≡ true)
+Says f (Err (Missing count lowest)) = Lacks f count lowest
 
 -- the test's answer says it, and no other answer does (FlagLaws.flags_tested, FlagLaws.one-answer)
 abbrev pub FlagsTested : Type 0
@@ -60,8 +56,8 @@ OneAnswer = (f : ℕ) (x y : FlagTest) → Says f x → Says f y → x ≡ y
 
 -- flags are good exactly if the test says so (FlagLaws.good_exactly)
 abbrev pub is_good : FlagTest → Bool
-is_good Good = true
-is_good (Bad w) = false
+is_good (Ok _) = true
+is_good (Err w) = false
 
 abbrev pub GoodExactly : Type 0
 GoodExactly = (f : ℕ) → good_flags f ≡ is_good (flag_test f)
@@ -71,11 +67,11 @@ GoodExactly = (f : ℕ) → good_flags f ≡ is_good (flag_test f)
 -- the flags that a message brings, tested
 abbrev pub Brought : Stage → List ℕ → FlagFlaw → Type 0
 Brought Free b w = ⊥
-Brought AwaitsName b w = flag_test (name_flags b) ≡ Bad w
+Brought AwaitsName b w = flag_test (name_flags b) ≡ Err w
 Brought AwaitsAlive b w = ⊥
 Brought AwaitsReply b w = ⊥
 Brought AwaitsStatus b w = ⊥
-Brought AwaitsChallenge b w = flag_test (challenge_flags b) ≡ Bad w
+Brought AwaitsChallenge b w = flag_test (challenge_flags b) ≡ Err w
 Brought AwaitsAck b w = ⊥
 Brought Connected b w = ⊥
 
@@ -88,8 +84,8 @@ BroughtIn g (Close s) w = ⊥
 BroughtIn g (Message s f c out) w = Brought (slot_at g s).stage (body f) w
 
 pub record CarriedOn : Type 0 where
-  pub making : (n : List ℕ) (f c : ℕ) (w : FlagFlaw) → (new_of n f c).making ≡ NotMade (BadFlags w) → flag_test f ≡ Bad w
-  pub call : (k : Cookies) (g : Endpoint) (c : Call) (w : FlagFlaw) → (step g c k).told.answer ≡ Refused (BadFlags w) → BroughtIn g c w
+  pub making : (n : List ℕ) (f c : ℕ) (w : FlagFlaw) → (new_of n f c).making ≡ Err (BadFlags w) → flag_test f ≡ Err w
+  pub call : (k : Cookies) (g : Endpoint) (c : Call) (w : FlagFlaw) → (step g c k).told.answer ≡ Err (BadFlags w) → BroughtIn g c w
 
 -- ---- what stands beside a number
 

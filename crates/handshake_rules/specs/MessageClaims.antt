@@ -1,9 +1,8 @@
 -- What is proved of the messages: what is written is read back (proofs/ReadBack).
-use Rattle.std.specs.Prelude.{ℕ, ◌+◌, ◌^◌, ◌≤◌, ◌<◌, ◌≡◌, true, List, ◌++◌, length, take, drop}
+use Rattle.std.specs.Prelude.{ℕ, ◌+◌, ◌^◌, ◌≤◌, ◌<◌, ◌≡◌, true, List, ◌++◌, length, take, drop, Ok}
 use Rattle.wire.specs.Number.{be_at}
 use Rattle.wire.specs.Frame.{framed, is_frame, body}
 use Rattle.names.specs.Full.{full_name}
-use Rattle.handshake_rules.specs.declared.refusal.Check.TheVariants.{Pass}
 use Rattle.handshake_rules.specs.Refusals.{checked}
 use Rattle.handshake_rules.specs.Flags.{good_flags}
 use Rattle.handshake_rules.specs.Messages.{name_message, challenge_message, status_message, reply_message, ack_message, name_flags, name_creation, name_name, challenge_flags, challenge_challenge, challenge_creation, challenge_name, status_word, reply_challenge, reply_digest, ack_digest}
@@ -12,7 +11,7 @@ use Rattle.handshake_rules.specs.Forms.{Form, form_tests, name_form, challenge_f
 -- a frame whose body passes these tests
 pub record Passes (frame : List ℕ) (form : Form) : Type 0 where
   pub whole : is_frame frame ≡ true
-  pub passes : checked (form_tests form) ≡ Pass
+  pub passes : checked (form_tests form) ≡ Ok tt
 
 pub record NameBack (f c : ℕ) (n w : List ℕ) : Type 0 where
   pub passes : Passes w (name_form (body w))

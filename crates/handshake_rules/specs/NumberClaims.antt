@@ -1,19 +1,16 @@
 -- "Given exactly when": a call is refused with the number of the first test that holds, in 01's order, and answered if none does (proofs/Numbers). One
 -- equation for each call; for a message the list goes on with the tests of the stage's rule: 14, 15 and 16.
-use Rattle.std.specs.Prelude.{ℕ, ◌≡◌, Bool, false, not, ◌||◌, List, [], ◌∷◌, ◌++◌}
+use Rattle.std.specs.Prelude.{ℕ, ◌≡◌, Bool, false, not, ◌||◌, List, [], ◌∷◌, ◌++◌, Ok, Err}
 use Rattle.wire.specs.Run.{same_bytes}
 use Rattle.wire.specs.Frame.{body}
 use Rattle.handshake_rules.specs.declared.refusal.Why.{Why}
 use Rattle.handshake_rules.specs.declared.refusal.Refusal.TheVariants.{BadFlags, UnknownStatus, WrongDigest, Declined}
 use Rattle.handshake_rules.specs.declared.flags.FlagFlaw.{FlagFlaw}
-use Rattle.handshake_rules.specs.declared.flags.FlagTest.TheVariants.{Bad}
-use Rattle.handshake_rules.specs.declared.refusal.Check.{Check}
-use Rattle.handshake_rules.specs.declared.refusal.Check.TheVariants.{Pass, Refuse}
 use Rattle.handshake_rules.specs.declared.endpoint.Stage.{Stage}
 use Rattle.handshake_rules.specs.declared.endpoint.Stage.TheVariants.{Free, AwaitsName, AwaitsAlive, AwaitsReply, AwaitsStatus, AwaitsChallenge, AwaitsAck, Connected}
 use Rattle.handshake_rules.specs.declared.endpoint.Slot.{Slot}
 use Rattle.handshake_rules.specs.State.{Endpoint}
-use Rattle.handshake_rules.specs.Refusals.{why_of, Test, ◌given-if◌, checked}
+use Rattle.handshake_rules.specs.Refusals.{why_of, Test, ◌given-if◌, checked, Check}
 use Rattle.handshake_rules.specs.Answers.{unrefused, making_why, numbers_of}
 use Rattle.handshake_rules.specs.Flags.{flag_test}
 use Rattle.handshake_rules.specs.Endpoint.{slot_at}
@@ -23,13 +20,13 @@ use Rattle.handshake_rules.specs.Calls.{new_tests, new_of, start_tests, start_of
 
 -- what a caller sees of what a list of tests comes to
 abbrev pub check_why : Check → Why
-check_why Pass = unrefused
-check_why (Refuse r) = why_of r
+check_why (Ok _) = unrefused
+check_why (Err r) = why_of r
 
 -- a refusal that a call can give: 9 carries what the flag test answers of some flags (CarriedOn)
 abbrev pub Givable : Check → Type 0
-Givable Pass = Unit
-Givable (Refuse r) = (w : FlagFlaw) → r ≡ BadFlags w → (f : ℕ) × (flag_test f ≡ Bad w)
+Givable (Ok _) = Unit
+Givable (Err r) = (w : FlagFlaw) → r ≡ BadFlags w → (f : ℕ) × (flag_test f ≡ Err w)
 
 -- each refusal has numbers of its own, and none has those of an answer (Numbers.numbers-apart)
 abbrev pub NumbersApart : Type 0

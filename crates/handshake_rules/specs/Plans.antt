@@ -1,15 +1,14 @@
 -- A message is first PLANNED, of which a cookie decides nothing but whether it is of allowed length; the plan is then SETTLED by the digest check,
 -- if it has one; and what is settled is FINISHED, which writes the digest of a reply or an acknowledgement.
-use Rattle.std.specs.Prelude.{ℕ, Bool, true, false, List, [], length}
+use Rattle.std.specs.Prelude.{ℕ, Bool, true, false, List, [], length, Ok, Err}
 use Rattle.wire.specs.Run.{same_bytes}
 use Rattle.names.specs.Held.{name_bytes}
 use Rattle.handshake_rules.specs.declared.refusal.Refusal.{Refusal}
 use Rattle.handshake_rules.specs.declared.refusal.Refusal.TheVariants.{WrongDigest}
 use Rattle.handshake_rules.specs.declared.endpoint.Stage.{Stage}
 use Rattle.handshake_rules.specs.declared.endpoint.Slot.{Slot}
-use Rattle.handshake_rules.specs.State.{Endpoint}
-use Rattle.handshake_rules.specs.declared.endpoint.Freed.{Freed}
-use Rattle.handshake_rules.specs.declared.endpoint.Answer.TheVariants.{Refused, Answered}
+use Rattle.handshake_rules.specs.State.{Endpoint, Freed}
+use Rattle.handshake_rules.specs.declared.endpoint.Answer.TheVariants.{Answered}
 use Rattle.handshake_rules.specs.State.{Told}
 use Rattle.handshake_rules.specs.Refusals.{Fate, keep, free, message_fate, checked, unless}
 use Rattle.handshake_rules.specs.Endpoint.{put, freed, free_other}
@@ -81,11 +80,11 @@ spared g s free = freed g s
 
 -- "Every refusal writes no output." It keeps everything, or frees the slot named
 abbrev pub refused : Endpoint → ℕ → Refusal → Done
-refused g s r = record { told = record { answer = Refused r; endpoint = spared g s (message_fate r) }; bytes = [] }
+refused g s r = record { told = record { answer = Err r; endpoint = spared g s (message_fate r) }; bytes = [] }
 
 -- "message [tells the count written] also the slot's new stage and any other slot it freed"
 abbrev pub answers : Endpoint → ℕ → Slot → Freed → ℕ → Told
-answers g s sl other count = record { answer = Answered sl.stage other count; endpoint = put g s sl }
+answers g s sl other count = record { answer = Ok (Answered sl.stage other count); endpoint = put g s sl }
 
 abbrev pub answered : Endpoint → ℕ → Slot → Freed → List ℕ → Done
 answered g s sl other bs = record { told = answers (free_other g other) s sl other (length bs); bytes = bs }

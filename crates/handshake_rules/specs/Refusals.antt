@@ -1,11 +1,9 @@
 -- 01, Numbers that a refused caller sees: the numbers, what each does with the slot named, and how the first of several tests decides.
-use Rattle.std.specs.Prelude.{ℕ, Bool, true, false, cond, List, [], ◌∷◌}
+use Rattle.std.specs.Prelude.{ℕ, Bool, true, false, cond, List, [], ◌∷◌, Ok, Err, Result}
 use Rattle.handshake_rules.specs.declared.refusal.Refusal.{Refusal}
 use Rattle.handshake_rules.specs.declared.refusal.Refusal.TheVariants.{OutputTooShort, SlotNotTaken, NotAFrame, UnknownTag, BadLength, BadName, BadFlags, AlreadyConnected, BadCookie, PeerTaken, NoFreeSlot, UnknownStatus, WrongDigest, Declined}
 use Rattle.handshake_rules.specs.declared.refusal.Why.{Why}
 use Rattle.handshake_rules.specs.declared.flags.FlagFlaw.{FlagFlaw}
-use Rattle.handshake_rules.specs.declared.refusal.Check.{Check}
-use Rattle.handshake_rules.specs.declared.refusal.Check.TheVariants.{Pass, Refuse}
 use Rattle.handshake_rules.specs.Flags.{flaw_count, flaw_bit}
 
 infix 70 ◌given-if◌
@@ -63,12 +61,16 @@ is_free free = true
 pub data Test : Type 0 where
   ◌given-if◌ : Refusal → Bool → Test
 
+-- what a list of tests comes to: none holds, or the first that does
+abbrev pub Check : Type 0
+Check = Result Unit Refusal
+
 -- the first refusal whose test holds; an order of refusals is a list of tests
 abbrev pub checked : List Test → Check
-checked [] = Pass
-checked ((r given-if b) ∷ ts) = cond b (Refuse r) (checked ts)
+checked [] = Ok tt
+checked ((r given-if b) ∷ ts) = cond b (Err r) (checked ts)
 
 -- what is due, unless a check refuses
 abbrev pub unless : {A : Type 0} → (Refusal → A) → A → Check → A
-unless stop due Pass = due
-unless stop due (Refuse r) = stop r
+unless stop due (Ok _) = due
+unless stop due (Err r) = stop r

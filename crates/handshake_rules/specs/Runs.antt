@@ -1,5 +1,5 @@
 -- 01, What the statements have to decide: lists of calls, and two runs of one list that differ in their cookies. What demand 3 speaks of.
-use Rattle.std.specs.Prelude.{ℕ, ◌≡◌, Bool, true, false, cond, ◌&&◌, not, List, [], ◌∷◌, map, length, get_or, leb, ltb}
+use Rattle.std.specs.Prelude.{ℕ, ◌≡◌, Bool, true, false, cond, ◌&&◌, not, List, [], ◌∷◌, map, length, get_or, leb, ltb, Ok}
 use Rattle.std.proofs.Math.Option.{Option, none, some}
 use Rattle.wire.specs.Run.{same_bytes}
 use Rattle.wire.specs.Output.{written}
@@ -7,7 +7,6 @@ use Rattle.handshake_rules.specs.State.{Endpoint}
 use Rattle.handshake_rules.specs.Endpoint.{slot_at}
 use Rattle.handshake_rules.specs.Cookie.{Cookies, checking, writing, needed, allowed, fit, digest_of}
 use Rattle.handshake_rules.specs.Plans.{Done, Writes, plain, reply, ack, Outcome, stop, go, Plan, sure, proven, settled}
-use Rattle.handshake_rules.specs.declared.endpoint.Making.TheVariants.{Ready}
 use Rattle.handshake_rules.specs.Calls.{room, silent, new_of, start_of, arrive_of, close_of, plan, message_of}
 
 -- ---- one call
@@ -147,4 +146,4 @@ ends g (a ∷ rest) = ends (next g a.call a.cookies) rest
 
 -- g is what making gives for these arguments
 abbrev pub MadeOf : List ℕ → ℕ → ℕ → Endpoint → Type 0
-MadeOf n f c g = new_of n f c ≡ record { making = Ready; endpoint = g }
+MadeOf n f c g = new_of n f c ≡ record { making = Ok tt; endpoint = g }

@@ -1,6 +1,6 @@
 -- What is proved of slots: by what a slot becomes connected and how long it stays so, what a slot holds, and what a call makes of it. Each claim names
 -- the theorem in proofs/ that is its proof.
-use Rattle.std.specs.Prelude.{ℕ, ◌<◌, ◌≡◌, ◌⊎◌, true, List, [], ◌∷◌, ◌++◌, length, eqb}
+use Rattle.std.specs.Prelude.{ℕ, ◌<◌, ◌≡◌, ◌⊎◌, true, List, [], ◌∷◌, ◌++◌, length, eqb, Some, Ok, Err, Result}
 use Rattle.wire.specs.Frame.{body}
 use Rattle.names.specs.Held.{name_of, name_bytes}
 use Rattle.names.specs.Full.{full_name}
@@ -8,11 +8,9 @@ use Rattle.handshake_rules.specs.declared.refusal.Refusal.{Refusal}
 use Rattle.handshake_rules.specs.declared.endpoint.Stage.{Stage}
 use Rattle.handshake_rules.specs.declared.endpoint.Stage.TheVariants.{Free, AwaitsName, AwaitsAlive, AwaitsReply, AwaitsStatus, AwaitsChallenge, AwaitsAck, Connected}
 use Rattle.handshake_rules.specs.declared.endpoint.Slot.{Slot}
-use Rattle.handshake_rules.specs.State.{Endpoint}
-use Rattle.handshake_rules.specs.declared.endpoint.Freed.{Freed}
-use Rattle.handshake_rules.specs.declared.endpoint.Freed.TheVariants.{At}
+use Rattle.handshake_rules.specs.State.{Endpoint, Freed}
 use Rattle.handshake_rules.specs.declared.endpoint.Answer.{Answer}
-use Rattle.handshake_rules.specs.declared.endpoint.Answer.TheVariants.{Refused, Answered}
+use Rattle.handshake_rules.specs.declared.endpoint.Answer.TheVariants.{Answered}
 use Rattle.handshake_rules.specs.Refusals.{free, message_fate}
 use Rattle.handshake_rules.specs.Endpoint.{free_slot, stage_number, kind, idle, slot_at}
 use Rattle.handshake_rules.specs.Answers.{ends_slot}
@@ -43,7 +41,7 @@ pub record Connects (k : Cookies) (g : Endpoint) (i : ℕ) (c : Call) : Type 0 w
   pub shown : Shown k g i c
   pub freed : Freed
   pub count : ℕ
-  pub answer : (step g c k).told.answer ≡ Answered Connected freed count
+  pub answer : (step g c k).told.answer ≡ Ok (Answered Connected freed count)
   pub slot : slot_at (next g c k) i ≡ moved (slot_at g i) Connected
 
 -- a slot that is connected after a call was so before, or the call connects it (Connected.only_by_digest)
@@ -235,21 +233,21 @@ pub record WasTaken (g : Endpoint) (s o : ℕ) (after : Endpoint) : Type 0 where
 abbrev pub FreedWasTaken : Type 0
 FreedWasTaken =
     (n : List ℕ) (f c : ℕ) (g : Endpoint) → MadeOf n f c g → (l : List Asked) (k : Cookies) (s : ℕ) (m : List ℕ) (h : ℕ) (out : List ℕ)
-    (st : Stage) (o count : ℕ) → (step (ends g l) (Message s m h out) k).told.answer ≡ Answered st (At o) count
+    (st : Stage) (o count : ℕ) → (step (ends g l) (Message s m h out) k).told.answer ≡ Ok (Answered st (Some o) count)
     → WasTaken (ends g l) s o (next (ends g l) (Message s m h out) k)
 
 -- the stage that a message tells is the one in which its slot then is (Freed.stage_told)
 abbrev pub StageTold : Type 0
 StageTold =
     (n : List ℕ) (f c : ℕ) (g : Endpoint) → MadeOf n f c g → (l : List Asked) (k : Cookies) (s : ℕ) (m : List ℕ) (h : ℕ) (out : List ℕ)
-    (st : Stage) (o : Freed) (count : ℕ) → (step (ends g l) (Message s m h out) k).told.answer ≡ Answered st o count
+    (st : Stage) (o : Freed) (count : ℕ) → (step (ends g l) (Message s m h out) k).told.answer ≡ Ok (Answered st o count)
     → (slot_at (next (ends g l) (Message s m h out) k) s).stage ≡ st
 
 -- a slot that a message on slot s ends is told: as the slot named, whose stage told is Free or whose refusal frees, or as the other slot
-pub data EndTold (s j : ℕ) (a : Answer) : Type 0 where
-  as_named : j ≡ s → (o : Freed) (count : ℕ) → a ≡ Answered Free o count → EndTold s j a
-  as_refused : j ≡ s → (r : Refusal) → a ≡ Refused r → message_fate r ≡ free → EndTold s j a
-  as_other : (st : Stage) (count : ℕ) → a ≡ Answered st (At j) count → EndTold s j a
+pub data EndTold (s j : ℕ) (a : Result Answer Refusal) : Type 0 where
+  as_named : j ≡ s → (o : Freed) (count : ℕ) → a ≡ Ok (Answered Free o count) → EndTold s j a
+  as_refused : j ≡ s → (r : Refusal) → a ≡ Err r → message_fate r ≡ free → EndTold s j a
+  as_other : (st : Stage) (count : ℕ) → a ≡ Ok (Answered st (Some j) count) → EndTold s j a
 
 -- (Freed.ends_told)
 abbrev pub EndsTold : Type 0

@@ -1,9 +1,10 @@
 ghost use Rattle.std.specs.Prelude.{◌≡◌};
+ghost use Rattle.handshake_rules.specs.declared.refusal.Refusal.TheVariants.{BadFlags};
 ghost use Rattle.handshake_rules.specs.Refusals.{why_of, message_fate, is_free};
 
 use crate::flags::FlagFlaw;
 
-#[derive(Clone, Copy)]
+#[derive(Clone, Copy, Debug, PartialEq, Eq)]
 pub enum Refusal {
     OutputTooShort,
     SlotNotTaken,
@@ -21,16 +22,19 @@ pub enum Refusal {
     Declined,
 }
 
-// What a list of tests comes to: none holds, or the first that does.
-#[derive(Clone, Copy)]
-pub enum Check {
-    Pass,
-    Refuse(Refusal),
+// Flags that are not good, wherever they come from.
+impl From<FlagFlaw> for Refusal {
+    ghost from_gives = { λ flaw e. e ≡ BadFlags flaw };
+
+    fn from(wrong: FlagFlaw) -> Refusal {
+        Refusal::BadFlags(wrong)
+    }
 }
 
-// What a refused caller sees: the number and, beside 9, how many required flags are missing and the
-// lowest of them by its bit, or 0 and 33. Beside all else both are 0.
-#[derive(Clone, Copy)]
+// What a refused caller sees, C too, which has no enum: the number and, beside 9, how many required flags are missing and the
+// lowest of them by its bit, or 0 and 33. Beside all else both are 0; and all three where nothing is
+// refused.
+#[derive(Clone, Copy, Debug, Default, PartialEq, Eq)]
 pub struct Why {
     pub number: u32,
     pub missing: u32,
@@ -38,6 +42,7 @@ pub struct Why {
 }
 
 impl Refusal {
+    // No cast: what BadFlags carries forbids one.
     fn number(self) -> u32
         ensures { result ≡ (why_of self).number }
     {
@@ -93,20 +98,20 @@ impl Refusal {
         ensures { result ≡ is_free (message_fate self) }
     {
         match self {
-            Refusal::OutputTooShort => false,
-            Refusal::SlotNotTaken => false,
-            Refusal::NotAFrame => true,
-            Refusal::UnknownTag => true,
-            Refusal::BadLength => true,
-            Refusal::BadName => true,
-            Refusal::BadFlags(_) => true,
-            Refusal::AlreadyConnected => false,
-            Refusal::BadCookie => false,
-            Refusal::PeerTaken => false,
-            Refusal::NoFreeSlot => false,
-            Refusal::UnknownStatus => true,
-            Refusal::WrongDigest => true,
-            Refusal::Declined => true,
+            Refusal::OutputTooShort
+            | Refusal::SlotNotTaken
+            | Refusal::AlreadyConnected
+            | Refusal::BadCookie
+            | Refusal::PeerTaken
+            | Refusal::NoFreeSlot => false,
+            Refusal::NotAFrame
+            | Refusal::UnknownTag
+            | Refusal::BadLength
+            | Refusal::BadName
+            | Refusal::BadFlags(_)
+            | Refusal::UnknownStatus
+            | Refusal::WrongDigest
+            | Refusal::Declined => true,
         }
     }
 }

@@ -1,5 +1,5 @@
 -- Laws of an endpoint that lies in bytes: a slot's record is read where it lies, and overwriting it changes that slot alone. Assumes nothing.
-use Prim.Native.Nat.{ℕ, ◌+◌, ◌<◌}
+use Prim.Native.Nat.{ℕ, ◌+◌, ◌<◌, ◌≤◌}
 use mathlib.Core.Path.{◌≡◌, refl, sym, ◌∙◌, ap, ap₂}
 use mathlib.Core.List.{List, [], ◌∷◌, ◌++◌, append-nil}
 use native.Mathlib.Omega.{arith}
@@ -18,7 +18,7 @@ use Rattle.handshake_rules.specs.declared.endpoint.Stage.{Stage}
 use Rattle.handshake_rules.specs.declared.endpoint.Stage.TheVariants.{Free, AwaitsName, AwaitsAlive, AwaitsReply, AwaitsStatus, AwaitsChallenge, AwaitsAck, Connected}
 use Rattle.handshake_rules.specs.State.{Endpoint}
 use Rattle.handshake_rules.specs.Endpoint.{stage_number, stage_of, free_slot, slot_at, put}
-use Rattle.handshake_rules.proofs.SlotLaws.{stage_back}
+use Rattle.handshake_rules.proofs.SlotLaws.{stage_back, past_last, put_past}
 use Rattle.handshake_state.specs.Bytes.{own_l, own_values, numbers_l, slot_l, slot_values, slot_bytes, own_size, slot_size, state_size, record_at, Whole, slot_from, slot_by, slots_in, endpoint_of, owned_by}
 
 -- ---- slots
@@ -82,6 +82,13 @@ put_here b i s h l fits long =
     let q : table slot_by slot_size 32 own_size (overwrite b a r) ≡ set (table slot_by slot_size 32 own_size b) i s =
     table_set slot_by slot_size 32 own_size i a b r h refl long (omega (arith, l)) ∙ ap (set (table slot_by slot_size 32 own_size b) i) (slot_back s fits) in
     λ j. record { name = record { bytes = p1 j; len = num (p0 j) }; flags = num (p2 j); creation = num (p3 j); slots = q j }
+
+-- past the last slot nothing is put, and a slot is free
+pub kept_past : (b : List ℕ) (i : ℕ) (s : Slot) → 32 ≤ i → endpoint_of b ≡ put (endpoint_of b) i s
+kept_past b i s h = sym (put_past (endpoint_of b) i s (omega (arith, here_long b, h)))
+
+pub slot_past : (b : List ℕ) (i : ℕ) → 32 ≤ i → free_slot ≡ slot_at (endpoint_of b) i
+slot_past b i h = sym (past_last (endpoint_of b) i (omega (arith, here_long b, h)))
 
 -- ---- our own name, flags and creation
 

@@ -1,14 +1,14 @@
 -- An endpoint as it lies in bytes that a host lends: its own name, flags and creation, and behind them a record for each slot. Whoever reads or writes
 -- them goes by these layouts; the offsets and widths of the code are theirs.
-use Rattle.std.specs.Prelude.{ℕ, ◌+◌, ◌*◌, ◌≡◌, List, [], ◌∷◌, ◌++◌, length, get_or}
+use Rattle.std.specs.Prelude.{ℕ, ◌+◌, ◌*◌, ◌≡◌, List, [], ◌∷◌, ◌++◌, length, get_or, Result, Ok, Err}
 use Rattle.wire.specs.Layout.{number, bytes, Layout, Value, int, run, encode, decode, width, int_of, run_of, int_at, run_at}
 use Rattle.wire.specs.Output.{written}
 use Rattle.wire.specs.Table.{table, table_bytes}
 use Rattle.names.specs.declared.held.Name.{Name}
 use Rattle.handshake_rules.specs.declared.endpoint.Slot.{Slot}
 use Rattle.handshake_rules.specs.declared.endpoint.Answer.{Answer}
-use Rattle.handshake_rules.specs.declared.endpoint.Making.{Making}
-use Rattle.handshake_rules.specs.declared.endpoint.Making.TheVariants.{Ready, NotMade}
+use Rattle.handshake_rules.specs.declared.refusal.Refusal.{Refusal}
+use Rattle.handshake_rules.specs.Refusals.{Check}
 use Rattle.handshake_rules.specs.State.{Endpoint, Told, Made}
 use Rattle.handshake_rules.specs.Endpoint.{stage_number, stage_of}
 use Rattle.handshake_rules.specs.Plans.{Done, Plan, concluded}
@@ -87,32 +87,32 @@ state_bytes g = encode own_l (own_values g.name g.flags g.creation) ++ table_byt
 -- ---- what a call does to the bytes
 
 -- what a call tells, with the endpoint that it leaves
-abbrev pub told_in : Answer → List ℕ → Told
+abbrev pub told_in : Result Answer Refusal → List ℕ → Told
 told_in a after = record { answer = a; endpoint = endpoint_of after }
 
 -- a call that is lent no output tells this
-abbrev pub Tells : Told → Answer → List ℕ → Type 0
+abbrev pub Tells : Told → Result Answer Refusal → List ℕ → Type 0
 Tells t a after = told_in a after ≡ t
 
 -- a call that comes to d: its answer and the state after it are d's, and the output after it is the one before with d's bytes from the first on
-abbrev pub Does : Done → Answer → List ℕ → List ℕ → List ℕ → Type 0
+abbrev pub Does : Done → Result Answer Refusal → List ℕ → List ℕ → List ℕ → Type 0
 Does d a after out left = (Tells d.told a after) × (left ≡ written d.bytes out)
 
 -- a message on slot s whose plan is concluded with this cookie; and one whose plan needs none, so that it is concluded alike with every cookie
-abbrev pub Concludes : List ℕ → ℕ → (Endpoint → Plan) → List ℕ → Answer → List ℕ → List ℕ → List ℕ → Type 0
+abbrev pub Concludes : List ℕ → ℕ → (Endpoint → Plan) → List ℕ → Result Answer Refusal → List ℕ → List ℕ → List ℕ → Type 0
 Concludes k s plan before a after out left = Does (concluded k k (endpoint_of before) s (plan (endpoint_of before))) a after out left
 
-abbrev pub ConcludesAlike : ℕ → (Endpoint → Plan) → List ℕ → Answer → List ℕ → List ℕ → List ℕ → Type 0
+abbrev pub ConcludesAlike : ℕ → (Endpoint → Plan) → List ℕ → Result Answer Refusal → List ℕ → List ℕ → List ℕ → Type 0
 ConcludesAlike s plan before a after out left =
     ((k : List ℕ) → Tells (concluded k k (endpoint_of before) s (plan (endpoint_of before))).told a after)
     × ((k : List ℕ) → left ≡ written (concluded k k (endpoint_of before) s (plan (endpoint_of before))).bytes out)
 
 -- where making refuses, the bytes are not touched
-abbrev pub if_made : Making → Endpoint → Endpoint → Endpoint
-if_made Ready made kept = made
-if_made (NotMade r) made kept = kept
+abbrev pub if_made : Check → Endpoint → Endpoint → Endpoint
+if_made (Ok _) made kept = made
+if_made (Err r) made kept = kept
 
-abbrev pub Makes : Made → Making → List ℕ → List ℕ → Type 0
+abbrev pub Makes : Made → Check → List ℕ → List ℕ → Type 0
 Makes m a before after = (a ≡ m.making) × (endpoint_of after ≡ if_made a m.endpoint (endpoint_of before))
 
 -- an endpoint with another name, flags and creation of its own

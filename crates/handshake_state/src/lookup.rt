@@ -1,58 +1,47 @@
-// Look-up: the lowest slot of a kind, by the peer's name where the kind has one.
-ghost use Rattle.std.specs.Prelude.{◌≡◌, ◌&&◌, length};
-ghost use Rattle.wire.specs.Run.{same_bytes};
-ghost use Rattle.names.specs.Held.{name_bytes};
+// Look-up: the lowest slot of a kind, by the peer's name where the kind has one. Which is sought is an enum
+// and no closure, since `sought` and `of_kind` (handshake_rules/specs/Endpoint) go by it.
+ghost use Rattle.std.specs.Prelude.{◌≡◌};
 ghost use Rattle.handshake_rules.specs.Endpoint as spec;
-ghost use Rattle.handshake_state.specs.Bytes.{slot_size, Whole, slot_by, endpoint_of};
+ghost use Rattle.handshake_state.specs.Bytes.{slot_by, endpoint_of};
+ghost use Rattle.handshake_state.specs.Lookup.{kind_number, found};
 
-use crate::bytes::{STAGE, peer_part, record_of};
-use crate::slots::{kind_of, stage_of};
+use crate::bytes::SIZE;
+use crate::kind::Kind;
+use crate::record::Record;
 use handshake_rules::endpoint::Sought;
 
-// 0 free, 1 accepted and in progress, 2 started and in progress, 3 connected.
-pub(crate) fn kind_in(bytes: &[u8]) -> u8
-    requires { length bytes.now ≡ slot_size }
-    ensures { result ≡ spec.kind (slot_by bytes.now).stage }
+fn is_of_kind(what: Sought, kind: Kind) -> bool
+    ensures { result ≡ spec.of_kind what (kind_number kind) }
 {
-    let stage = stage_of(wire::get8(bytes, STAGE));
-    kind_of(stage)
+    match what {
+        Sought::AnyFree => kind == Kind::Free,
+        Sought::AcceptedFrom => kind == Kind::Accepted,
+        Sought::StartedTo => kind == Kind::Started,
+        Sought::ConnectedTo => kind == Kind::Connected,
+        Sought::AnyTaken => kind != Kind::Free,
+    }
 }
 
-fn is_peer(bytes: &[u8], meant: bool, name: &[u8]) -> bool
-    requires { length bytes.now ≡ slot_size }
-    ensures { result ≡ (meant && same_bytes (name_bytes (slot_by bytes.now).name) name.now) }
+fn is_sought(held: Record, what: Sought, name: &[u8]) -> bool
+    ensures { result ≡ spec.sought what name.now (slot_by held.entry.bytes.now) }
 {
-    if !meant {
+    if !is_of_kind(what, held.kind()) {
         return false;
     }
-    wire::same_bytes(peer_part(bytes), name)
-}
-
-fn is_sought(bytes: &[u8], what: Sought, name: &[u8]) -> bool
-    requires { length bytes.now ≡ slot_size }
-    ensures { result ≡ spec.sought what name.now (slot_by bytes.now) }
-{
-    let k = kind_in(bytes);
     match what {
-        Sought::AnyFree => k == 0,
-        Sought::AcceptedFrom => is_peer(bytes, k == 1, name),
-        Sought::StartedTo => is_peer(bytes, k == 2, name),
-        Sought::ConnectedTo => is_peer(bytes, k == 3, name),
-        Sought::AnyTaken => is_peer(bytes, k != 0, name),
+        Sought::AnyFree => true,
+        _ => wire::same_bytes(held.peer(), name),
     }
 }
 
-// The lowest slot that is sought, or 32.
-pub fn find(state: &[u8], what: Sought, name: &[u8]) -> usize
-    requires { Whole state.now }
-    ensures { result ≡ spec.lowest what name.now (endpoint_of state.now) }
+// The lowest slot that is sought. `(0..32).find` over `is_sought` was tried; its proof did not close.
+pub fn find(state: &[u8; SIZE], what: Sought, name: &[u8]) -> Option<usize>
+    ensures { result ≡ found (spec.lowest what name.now (endpoint_of state.now)) }
 {
-    let mut i: usize = 0;
-    while i < 32 {
-        if is_sought(record_of(state, i), what, name) {
-            return i;
+    for i in 0..32 {
+        if is_sought(Record::of(state, i), what, name) {
+            return Some(i);
         }
-        i += 1;
     }
-    i
+    None
 }

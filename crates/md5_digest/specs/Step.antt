@@ -1,27 +1,33 @@
--- What helper functions ask and give: the operations of a block one after the other, and a block filled from a zeroed one.
+-- What helper functions ask and give: an operation with its round's auxiliary function, a round by its table, and a block filled from a zeroed one.
 -- Assumes nothing.
-use Rattle.std.specs.Prelude.{◌≡◌, ℕ, ◌+◌, ◌-◌, ◌<◌, ◌≤◌, cond, List, length, take, nat_lt, slice_index, slice_index_or}
-use Rattle.md5_digest.specs.Md5.{F, G, H, I, T, op, operations, run}
+use Rattle.std.specs.Prelude.{◌≡◌, ℕ, ◌+◌, ◌^◌, ◌<◌, Bool, true, ◌&&◌, ◌==◌, List, [], ◌∷◌, length, nat_lt, slice_index}
+use Rattle.md5_digest.specs.Md5.{T, op}
 use Rattle.md5_digest.specs.declared.step.State.{State}
 
--- the function of the round that operation i belongs to
-abbrev pub auxiliary : ℕ → ℕ → ℕ → ℕ → ℕ
-auxiliary i = cond (nat_lt i 17) F (cond (nat_lt i 33) G (cond (nat_lt i 49) H I))
+-- what a call with three words may give is what m says
+abbrev pub Computes : (ℕ → ℕ → ℕ → ℕ → Type 0) → (ℕ → ℕ → ℕ → ℕ) → Type 0
+Computes post m = (x y z r : ℕ) → x < 2 ^ 32 → y < 2 ^ 32 → z < 2 ^ 32 → post x y z r → r ≡ m x y z
 
--- the block x is whole, and s is what the operations before operation i make of start
-pub record Before (x : List ℕ) (i : ℕ) (start s : State) : Type 0 where
-  pub whole : 64 ≤ length x
-  pub is : s ≡ run x (take (i - 1) operations) start
+-- an entry of a round's table: k, s, i and T[i]
+abbrev pub Entry : Type 0
+Entry = ℕ × ℕ × ℕ × ℕ
 
--- operation i is [abcd k s i], and t is T[i]
-pub record Operation (k s i t : ℕ) : Type 0 where
-  pub first : 0 < i
-  pub last : i < 65
-  pub listed : slice_index_or operations (i - 1) (λ x w. w) ≡ op (auxiliary i) k s i
-  pub adds : t ≡ T i
-  pub word : k < 16
-  pub some : 0 < s
-  pub few : s < 32
+-- k names a word of a block, s is a rotation of a word, and the last is T[i]
+abbrev pub IsOperation : Entry → Type 0
+IsOperation o = (o.0 < 16) × (0 < o.1) × (o.1 < 32) × (o.3 ≡ T o.2)
+
+abbrev pub are_operations : List Entry → Bool
+are_operations [] = true
+are_operations (o ∷ os) = (nat_lt o.0 16 && nat_lt 0 o.1 && nat_lt o.1 32 && (o.3 == T o.2)) && are_operations os
+
+-- what the operation does, with the function m
+abbrev pub does : (ℕ → ℕ → ℕ → ℕ) → Entry → List ℕ → State → State
+does m o = op m o.0 o.1 o.2
+
+-- the operations of a round by its table, with the function m
+abbrev pub listed : (ℕ → ℕ → ℕ → ℕ) → List Entry → List (List ℕ → State → State)
+listed m [] = []
+listed m (o ∷ os) = does m o ∷ listed m os
 
 -- the block b is the 64 bytes of l from at on, with zeros behind the end of l
 pub record Shows (l b : List ℕ) (at : ℕ) : Type 0 where

@@ -1,75 +1,48 @@
 // The padding of a text (RFC 1321, 3.1 and 3.2) as blocks, and the output (3.5).
-ghost use Rattle.std.specs.Prelude.{◌≡◌, ◌+◌, ◌*◌, ◌%◌, ◌^◌, ◌<◌, ◌≤◌, length, replicate, slice_index};
+ghost use Rattle.std.specs.Prelude.{◌≡◌, ◌+◌, ◌*◌, ◌<◌, ◌≤◌, length};
 ghost use Rattle.md5_digest.specs.Md5 as spec;
 ghost use Rattle.md5_digest.specs.Step.{Shows};
 
 use crate::step::State;
 
-// Byte k of the length in bits of a text of n bytes.
-fn length_byte(n: usize, k: usize) -> u8
-    requires { k < 8 }
-    ensures { result ≡ slice_index (spec.bytes 8 (8 * n % 2 ^ 64)) k }
+// The text's bytes from at on, the one bit behind them, and zeros.
+fn tail(text: &[u8], at: usize) -> [u8; 64]
+    requires { length text.now < at + 64 }
+    ensures { Shows (spec.with_bits text.now) result at }
 {
-    let bits = n % 0x2000_0000_0000_0000 * 8;
-    ((bits >> (8 * k)) % 256) as u8
-}
-
-// Stores the text's bytes from at on, and the one bit behind them, into a zeroed block.
-fn tail(b: &mut [u8; 64], text: &[u8], at: usize)
-    requires b_value { b.old ≡ replicate 64 0 }
-    requires text_len_bound { length text.now < at + 64 }
-    ensures { Shows (spec.with_bits text.now) b.new at }
-{
+    let mut b = [0u8; 64];
     let n = text.len();
-    if n < at {
-        return;
+    if at <= n {
+        let end = n - at;
+        b[..end].copy_from_slice(&text[at..]);
+        b[end] = 128;
     }
-    let end = n - at;
-    for j in 0..end {
-        b[j] = text[at + j];
-    }
-    b[end] = 128;
+    b
 }
 
-// Turns a zeroed block into block i of the padded text, where that is no block of the text itself. It stores only the text's last bytes,
-// the one bit and, in the last block, the length: most digests are of one such block.
-pub(crate) fn last(b: &mut [u8; 64], text: &[u8], i: usize)
-    requires b_value { b.old ≡ replicate 64 0 }
+// Block i of the padded text, where that is no block of the text itself: most digests are of one such block.
+pub(crate) fn last(text: &[u8], i: usize) -> [u8; 64]
     requires i_in_bounds { 64 * i + 64 ≤ length (spec.pad text.now) }
     requires text_len_bound { length text.now < 64 * i + 64 }
-    ensures { b.new ≡ spec.block (spec.pad text.now) i }
+    ensures { result ≡ spec.block (spec.pad text.now) i }
 {
     let at = 64 * i;
     let n = text.len();
-    tail(b, text, at);
-    if at + 56 <= n {
-        return;
+    let mut b = tail(text, at);
+    if n < at + 56 {
+        b[56..].copy_from_slice(&n.wrapping_mul(8).to_le_bytes());
     }
-    for k in 0..8 {
-        b[56 + k] = length_byte(n, k);
-    }
+    b
 }
 
 // The four words as bytes, the low-order byte of A first.
 pub(crate) fn bytes(s: State) -> [u8; 16]
     ensures { result ≡ spec.output s }
 {
-    [
-        (s.a % 256) as u8,
-        (s.a / 256 % 256) as u8,
-        (s.a / 256 / 256 % 256) as u8,
-        (s.a / 256 / 256 / 256 % 256) as u8,
-        (s.b % 256) as u8,
-        (s.b / 256 % 256) as u8,
-        (s.b / 256 / 256 % 256) as u8,
-        (s.b / 256 / 256 / 256 % 256) as u8,
-        (s.c % 256) as u8,
-        (s.c / 256 % 256) as u8,
-        (s.c / 256 / 256 % 256) as u8,
-        (s.c / 256 / 256 / 256 % 256) as u8,
-        (s.d % 256) as u8,
-        (s.d / 256 % 256) as u8,
-        (s.d / 256 / 256 % 256) as u8,
-        (s.d / 256 / 256 / 256 % 256) as u8,
-    ]
+    let mut out = [0u8; 16];
+    out[..4].copy_from_slice(&s.a.to_le_bytes());
+    out[4..8].copy_from_slice(&s.b.to_le_bytes());
+    out[8..12].copy_from_slice(&s.c.to_le_bytes());
+    out[12..].copy_from_slice(&s.d.to_le_bytes());
+    out
 }

@@ -7,12 +7,10 @@ use lib.ListN.{length, take, drop, length-append}
 use lib.Seq.{take_at}
 use Rattle.wire.specs.Decimal.{decimal}
 use Rattle.wire.specs.Output.{written}
-use Rattle.wire.specs.Run.{part}
 use Rattle.wire.proofs.DecimalLaws.{decimal_within}
 use Rattle.epmd_rules.specs.declared.refusal.Refusal.{Refusal}
 use Rattle.epmd_rules.specs.declared.refusal.Refusal.TheVariants.{OutputTooShort, NotAFrame, UnknownTag, BadLength, BadName, BadVersions, NotServed, ZeroCreation}
-use Rattle.epmd_rules.specs.declared.answer.Answer.TheVariants.{Written, Refused}
-use Rattle.epmd_rules.specs.declared.answer.Answer.{Answer}
+use Rattle.std.proofs.Common.{Result, Ok, Err}
 use Rattle.epmd_rules.specs.Requests.{room, refusal_number}
 use Rattle.epmd_rules.specs.Answers.{numbers_of}
 use Rattle.script_lines.specs.Text.{hex_of}
@@ -41,9 +39,9 @@ refusal_small NotServed = omega arith
 refusal_small ZeroCreation = omega arith
 
 -- with what the mapper told, and with the script's own number, they fit
-pub answer_fits : (a : Answer) (bs : List ℕ) → (numbers_of a).written ≡ length bs → length bs ≤ room → length (answer_text (result_number a) bs) ≤ answer_room
-answer_fits (Written k) bs e h = omega (arith, h, answer_length 0 bs, decimal_within 1 0 (omega arith) (omega arith) (omega arith))
-answer_fits (Refused r) bs e h =
+pub answer_fits : (a : Result ℕ Refusal) (bs : List ℕ) → (numbers_of a).written ≡ length bs → length bs ≤ room → length (answer_text (result_number a) bs) ≤ answer_room
+answer_fits (Ok k) bs e h = omega (arith, h, answer_length 0 bs, decimal_within 1 0 (omega arith) (omega arith) (omega arith))
+answer_fits (Err r) bs e h =
     let n = refusal_number r in
     omega (arith, e, answer_length n bs, decimal_within 2 n (omega arith) (omega arith) (omega (arith, refusal_small r)))
 
@@ -56,9 +54,8 @@ pub written_front : (bs xs : List ℕ) (n : ℕ) → n ≡ length bs → take n 
 unfolding written
 written_front bs xs n e = take_at bs (drop (length bs) xs) n (sym e)
 
-pub part_front : (bs xs ys : List ℕ) (n : ℕ) → ys ≡ written bs xs → n ≡ length bs → part 0 n ys ≡ bs
-unfolding part
-part_front bs xs ys n e l = ap (take n) e ∙ written_front bs xs n l
+pub front_of : (bs xs ys : List ℕ) (n : ℕ) → ys ≡ written bs xs → n ≡ length bs → take n ys ≡ bs
+front_of bs xs ys n e l = ap (take n) e ∙ written_front bs xs n l
 
 pub written_holds : (bs xs ys : List ℕ) (n : ℕ) → ys ≡ written bs xs → n ≡ length bs → n ≤ length ys
 unfolding written

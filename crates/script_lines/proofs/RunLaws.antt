@@ -1,9 +1,8 @@
 -- A run from a reader to a writer, read by read. Assumes nothing.
-use Rattle.std.proofs.Common.{◌≡◌, ℕ, ◌+◌, ◌-◌, ◌<◌, ◌≤◌, List, [], ◌∷◌, ◌++◌, length, Option, None, Some, refl, sym, ap, ◌∙◌, subst, append_assoc, append-nil, length-append, take, arith, true}
+use Rattle.std.proofs.Common.{◌≡◌, ℕ, ◌+◌, ◌<◌, ◌≤◌, List, [], ◌∷◌, ◌++◌, length, Option, None, Some, refl, sym, ap, ◌∙◌, subst, append_assoc, append-nil, length-append, take, arith, true}
 use Rattle.std.specs.Io.KnownBytes.{Appends, Consumes, IsAtEnd}
 use Rattle.std.proofs.KnownBytes.{Appends-nil, Appends-trans}
 use lib.Seq.{length-take-le}
-use Rattle.wire.specs.Run.{part}
 use Rattle.epmd_rules.specs.State.{Registry}
 use Rattle.script_lines.specs.declared.script.Awaits.TheVariants.{Operation, Connection, Frame, Nothing}
 use Rattle.script_lines.specs.declared.script.Awaits.{Awaits}
@@ -12,12 +11,12 @@ use Rattle.script_lines.specs.Script.{has_ended, line_of, end_of, started}
 use Rattle.script_lines.specs.Lines.{lines_from, printed_from, to_print, printed, take_of, PrintedOn, PrintsAll}
 use Rattle.script_lines.proofs.PartLaws.{printed_none, printed_more}
 
--- of an input xs some is read, and what it prints is written; so much of it is left, and so many reads
+-- of an input xs some is read by n reads, and what it prints is written; so much of it is left
 pub record Reads (xs rest : List ℕ) (out out' : Option (List ℕ)) (s : Script) (held : List ℕ) (n : ℕ) : Type 0 where
   pub bytes : List ℕ
   pub appended : Appends out out' bytes
   pub is : printed xs ≡ bytes ++ to_print s held rest
-  pub left : 18446744073709551615 + length rest ≤ length xs + n
+  pub left : n + length rest ≤ length xs
 
 abbrev pub GoesOn : Option (List ℕ) → Option (List ℕ) → Option (List ℕ) → Option (List ℕ) → Script → List ℕ → ℕ → Type 0
 GoesOn None r out out' s held n = Unit {0}
@@ -45,7 +44,7 @@ printed_started : (xs : List ℕ) → printed xs ≡ to_print started [] xs
 unfolding printed
 printed_started xs = refl
 
-pub goes_first : (r out : Option (List ℕ)) (s : Script) (held : List ℕ) → s ≡ started → held ≡ [] → GoesOn r r out out s held 18446744073709551615
+pub goes_first : (r out : Option (List ℕ)) (s : Script) (held : List ℕ) → s ≡ started → held ≡ [] → GoesOn r r out out s held 0
 goes_first None out s held e f = tt
 goes_first (Some xs) out s held e f =
     record {
@@ -55,12 +54,12 @@ goes_first (Some xs) out s held e f =
       left = omega arith;
     }
 
-pub goes_on : (r r₁ r₂ out out₁ out₂ : Option (List ℕ)) (s s' : Script) (held held' bs : List ℕ) (n : ℕ) → GoesOn r r₁ out out₁ s held n → Consumes r₁ r₂ bs → 0 < length bs → 0 < n
-    → PrintedOn s held bs s' held' [] out₁ out₂ → GoesOn r r₂ out out₂ s' held' (n - 1)
-goes_on None r₁ r₂ out out₁ out₂ s s' held held' bs n g c b m p = tt
-goes_on (Some xs) None r₂ out out₁ out₂ s s' held held' bs n g c b m p = absurd g
-goes_on (Some xs) (Some rest) None out out₁ out₂ s s' held held' bs n g c b m p = absurd c
-goes_on (Some xs) (Some rest) (Some rest') out out₁ out₂ s s' held held' bs n g c b m p =
+pub goes_on : (r r₁ r₂ out out₁ out₂ : Option (List ℕ)) (s s' : Script) (held held' bs : List ℕ) (n : ℕ) → GoesOn r r₁ out out₁ s held n → Consumes r₁ r₂ bs → 0 < length bs
+    → PrintedOn s held bs s' held' [] out₁ out₂ → GoesOn r r₂ out out₂ s' held' (n + 1)
+goes_on None r₁ r₂ out out₁ out₂ s s' held held' bs n g c b p = tt
+goes_on (Some xs) None r₂ out out₁ out₂ s s' held held' bs n g c b p = absurd g
+goes_on (Some xs) (Some rest) None out out₁ out₂ s s' held held' bs n g c b p = absurd c
+goes_on (Some xs) (Some rest) (Some rest') out out₁ out₂ s s' held held' bs n g c b p =
     record {
       bytes = g.bytes ++ p.printed.bytes;
       appended = Appends-trans _ _ _ _ _ g.appended p.appended;
@@ -69,16 +68,11 @@ goes_on (Some xs) (Some rest) (Some rest') out out₁ out₂ s s' held held' bs 
       left = omega (arith, g.left, simp length-append at (ap length c));
     }
 
-pub part_zero : (n : ℕ) (xs : List ℕ) → part 0 n xs ≡ take n xs
-unfolding part
-part_zero n xs = refl
-
 -- a read gave the first n bytes of a buffer xs
 pub goes_read : (r r₁ r₂ out out₁ out₂ : Option (List ℕ)) (s s' : Script) (held held' xs bs : List ℕ) (k n : ℕ) → GoesOn r r₁ out out₁ s held n → Consumes r₁ r₂ (take k xs)
-    → bs ≡ part 0 k xs → k ≤ length xs → 0 < k → 0 < n → PrintedOn s held bs s' held' [] out₁ out₂ → GoesOn r r₂ out out₂ s' held' (n - 1)
-goes_read r r₁ r₂ out out₁ out₂ s s' held held' xs bs k n g c e l b m p =
-    let f : bs ≡ take k xs = e ∙ part_zero k xs in
-    goes_on r r₁ r₂ out out₁ out₂ s s' held held' bs n g (subst (Consumes r₁ r₂) (sym f) c) (omega (arith, ap length f, length-take-le k xs l)) m p
+    → bs ≡ take k xs → k ≤ length xs → 0 < k → PrintedOn s held bs s' held' [] out₁ out₂ → GoesOn r r₂ out out₂ s' held' (n + 1)
+goes_read r r₁ r₂ out out₁ out₂ s s' held held' xs bs k n g c e l b p =
+    goes_on r r₁ r₂ out out₁ out₂ s s' held held' bs n g (subst (Consumes r₁ r₂) (sym e) c) (omega (arith, ap length e, length-take-le k xs l)) p
 
 pub goes_end : (r r₁ r₂ out out₁ out₂ : Option (List ℕ)) (s : Script) (held bs : List ℕ) (n : ℕ) → GoesOn r r₁ out out₁ s held n → Consumes r₁ r₂ bs → bs ≡ [] → IsAtEnd r₂
     → Appends out₁ out₂ (to_print s held []) → PrintsAll r out out₂
@@ -109,8 +103,8 @@ goes_ended (Some xs) None out out₁ s held n g e = absurd g
 goes_ended (Some xs) (Some rest) out out₁ s held n g e =
     λ h. subst (Appends out out₁) (sym (g.is ∙ ap (λ (l : List ℕ). g.bytes ++ l) (ended_prints s (lines_from held rest) e) ∙ append-nil g.bytes)) g.appended
 
--- and there are reads left while there is input
-pub goes_out : (r r₁ out out₁ : Option (List ℕ)) (s : Script) (held : List ℕ) (n : ℕ) → GoesOn r r₁ out out₁ s held n → n ≡ 0 → PrintsAll r out out₁
+-- and there are fewer reads than bytes of input
+pub goes_out : (r r₁ out out₁ : Option (List ℕ)) (s : Script) (held : List ℕ) (n : ℕ) → GoesOn r r₁ out out₁ s held n → n ≡ 18446744073709551615 → PrintsAll r out out₁
 goes_out None r₁ out out₁ s held n g e = tt
 goes_out (Some xs) None out out₁ s held n g e = absurd g
 goes_out (Some xs) (Some rest) out out₁ s held n g e = λ h. absurd (omega (arith, g.left))

@@ -1,14 +1,17 @@
 -- Laws of hexadecimal and decimal text. Assumes nothing.
 use Prim.Native.Nat.{ℕ, zero, suc, ◌+◌, ◌*◌, ◌-◌, ◌/◌, ◌%◌, ◌≤◌, ◌<◌}
 use mathlib.Core.Path.{◌≡◌, refl, sym, ap, ap₂, ◌∙◌}
-use mathlib.Core.Bool.{Bool, true, false, ◌&&◌}
+use mathlib.Core.Bool.{Bool, true, false, cond, ◌&&◌}
+use Rattle.std.proofs.Common.{Option, Some, None}
+use Rattle.std.specs.List.{list_all}
+use Rattle.std.specs.Simd.{first_chunks}
 use mathlib.Core.List.{List, [], ◌∷◌, ◌++◌, append_assoc, append-nil}
 use native.Mathlib.Numerals.{add-one}
 use native.Mathlib.Omega.{arith}
 use lib.ListN.{length, get_or, set, take, drop, drop_of_length-le, take-append-drop}
-use lib.Seq.{drop-cons, take-suc, take-suc-set, length-take-le}
+use lib.Seq.{get_or-take, get_or-drop, drop-drop, drop-cons, take-suc, take-suc-set, length-take-le}
 use lib.Dec.{eqb, leb, ltb}
-use borrow.Author.Tests.{lt-ltb, le-ltb, ltb-true, ltb-false, le-leb, lt-leb, leb-true, leb-false, eqb-true}
+use borrow.Author.Tests.{lt-ltb, ltb-true, ltb-false, le-leb, lt-leb, leb-true, leb-false, eqb-true}
 use Rattle.wire.specs.Decimal.{value_from}
 use Rattle.wire.specs.Output.{overwrite, written}
 use Rattle.wire.proofs.RunLaws.{and_left, and_right}
@@ -53,6 +56,21 @@ digit_of c = by (ltb c 48) refl (leb c 57) refl (ltb c 97) refl (leb c 102) refl
   by false e false f false g true k = letter_at (ltb-false c 97 g) (leb-true c 102 k)
   by false e false f false g false k = other (value_above c (leb-false c 102 k))
 
+-- as the code tells it: a digit's value, or none
+module _ (c : ℕ) where
+  pub digit_numeral : 48 ≤ c → c ≤ 57 → Some (c - 48) ≡ cond (ltb (digit_value c) 16) (Some (digit_value c)) None
+  digit_numeral h k = rw (value_numeral c h k, lt-ltb (c - 48) 16 (omega arith))
+
+  pub digit_letter : 97 ≤ c → c ≤ 102 → Some (c - 87) ≡ cond (ltb (digit_value c) 16) (Some (digit_value c)) None
+  digit_letter h k = rw (value_letter c h k, lt-ltb (c - 87) 16 (omega arith))
+
+  pub digit_none : (48 ≤ c → c ≤ 57 → ⊥) → (97 ≤ c → c ≤ 102 → ⊥) → ◌≡◌ {A = Option ℕ} None (cond (ltb (digit_value c) 16) (Some (digit_value c)) None)
+  digit_none n l = by (digit_of c) where
+    by : Digit c → ◌≡◌ {A = Option ℕ} None (cond (ltb (digit_value c) 16) (Some (digit_value c)) None)
+    by (numeral_at h k) = absurd (n h k)
+    by (letter_at h k) = absurd (l h k)
+    by (other e) = rw e
+
 -- a decimal digit is a numeral
 pub numeral : (c : ℕ) → digit_value c < 10 → (48 ≤ c) × (c ≤ 57)
 numeral c h = by (digit_of c) where
@@ -63,20 +81,11 @@ numeral c h = by (digit_of c) where
 
 -- ---- every character is a digit
 
-module _ (r : ℕ) (t : List ℕ) (i : ℕ) (h : i < length t) where
-  digits_step : all_digits r (drop i t) ≡ ltb (digit_value (get_or t i 0)) r && all_digits r (drop (i + 1) t)
-  unfolding all_digits
-  digits_step = rw (add-one i, drop-cons t i 0)
-
-  pub digits_go : digit_value (get_or t i 0) < r → all_digits r (drop i t) ≡ all_digits r (drop (i + 1) t)
-  digits_go k = digits_step ∙ rw (lt-ltb _ _ k)
-
-  pub digits_stop : r ≤ digit_value (get_or t i 0) → all_digits r (drop i t) ≡ false
-  digits_stop k = digits_step ∙ rw (le-ltb _ _ k)
-
-pub digits_end : (r : ℕ) (t : List ℕ) (i : ℕ) → length t ≤ i → all_digits r (drop i t) ≡ true
+-- std's test of every character is the same
+pub digits_std : (r : ℕ) (cs : List ℕ) → list_all (λ c. ltb (digit_value c) r) cs ≡ all_digits r cs
 unfolding all_digits
-digits_end r t i h = rw (drop_of_length-le t h)
+digits_std r [] = refl
+digits_std r (c ∷ cs) = ap (λ (t : Bool). ltb (digit_value c) r && t) (digits_std r cs)
 
 pub digits_at : (r : ℕ) (t : List ℕ) (i : ℕ) → all_digits r t ≡ true → i < length t → digit_value (get_or t i 0) < r
 unfolding all_digits
@@ -93,6 +102,19 @@ unfolding is_hex
 hex_even t e = (eqb-true (length t % 2) 0 (and_left _ (all_digits 16 t) e), and_right (eqb (length t % 2) 0) (all_digits 16 t) e)
 
 -- ---- text to bytes
+
+-- a digit of the k-th pair
+pair_at : (n k : ℕ) (t : List ℕ) → k < n → get_or (first_chunks 2 n t) k [] ≡ take 2 (drop (2 * k) t)
+pair_at zero k t h = absurd (omega arith)
+pair_at (suc n) zero t h = refl
+pair_at (suc n) (suc k) t h =
+    let two : 2 + 2 * k ≡ 2 * suc k = omega arith in
+    pair_at n k (drop 2 t) (omega arith) ∙ ap (take 2) (drop-drop (2 * k) 2 t ∙ ap (λ (j : ℕ). drop j t) two)
+
+pub pair_digit : (n k i : ℕ) (t : List ℕ) (ps : List (List ℕ)) → ps ≡ first_chunks 2 n t → k < n → i < 2 → get_or (get_or ps k []) i 0 ≡ get_or t (2 * k + i) 0
+pair_digit n k i t ps e h l =
+    ap (λ (x : List (List ℕ)). get_or (get_or x k []) i 0) e ∙ ap (λ (x : List ℕ). get_or x i 0) (pair_at n k t h)
+    ∙ get_or-take 2 (drop (2 * k) t) i 0 l ∙ get_or-drop (2 * k) t i 0
 
 module _ (t : List ℕ) (i : ℕ) (h : i + 1 < length t) where
   pub unhex_step : unhex (drop i t) ≡ (digit_value (get_or t i 0) * 16 + digit_value (get_or t (i + 1) 0)) ∷ unhex (drop (i + 2) t)

@@ -1,9 +1,9 @@
 -- 01, The script program: "prints `result=` (0 or the refusal) and `hex=` (the reply, empty if refused)".
-use Rattle.std.specs.Prelude.{ℕ, ◌+◌, ◌*◌, List, [], ◌∷◌, ◌++◌}
+use Rattle.std.specs.Prelude.{ℕ, ◌+◌, ◌*◌, List, [], ◌∷◌, ◌++◌, Result}
 use Rattle.wire.specs.Decimal.{decimal}
 use Rattle.epmd_rules.specs.Requests.{room}
 use Rattle.epmd_rules.specs.Answers.{numbers_of}
-use Rattle.epmd_rules.specs.declared.answer.Answer.{Answer}
+use Rattle.epmd_rules.specs.declared.refusal.Refusal.{Refusal}
 use Rattle.script_lines.specs.Text.{hex_of}
 
 -- "result="
@@ -18,7 +18,7 @@ hex_line = 10 ∷ 104 ∷ 101 ∷ 120 ∷ 61 ∷ []
 unfoldable pub answer_text : ℕ → List ℕ → List ℕ
 answer_text result reply = result_key ++ (decimal result ++ (hex_line ++ (hex_of reply ++ (10 ∷ []))))
 
-abbrev pub result_number : Answer → ℕ
+abbrev pub result_number : Result ℕ Refusal → ℕ
 result_number a = (numbers_of a).refusal
 
 -- the longest answer: to NAMES

@@ -1,5 +1,5 @@
 -- What is proved of the definitions themselves, beside the contracts that cite them. Each claim names the law in proofs/ that is its proof.
-use Rattle.std.specs.Prelude.{ℕ, ◌^◌, ◌<◌, ◌≡◌, true, List, [], ◌∷◌, ◌++◌}
+use Rattle.std.specs.Prelude.{ℕ, ◌^◌, ◌<◌, ◌≡◌, true, Some, List, [], ◌∷◌, ◌++◌}
 use Rattle.wire.specs.Claims.{Octets}
 use Rattle.wire.specs.Decimal.{decimal, value}
 use Rattle.script_lines.specs.State.{Script}
@@ -28,7 +28,7 @@ DecimalTaken = (cs : List ℕ) → is_decimal cs ≡ true → ((value cs < 2 ^ 3
 abbrev pub ConnLine : Type 0
 ConnLine =
     (l : List ℕ) (n : ℕ)
-    → (item_of l ≡ Conn n → ((n < 2 ^ 32) × (l ≡ conn_key ++ decimal n))) × (n < 2 ^ 32 → item_of (conn_key ++ decimal n) ≡ Conn n)
+    → (item_of l ≡ Some (Conn n) → ((n < 2 ^ 32) × (l ≡ conn_key ++ decimal n))) × (n < 2 ^ 32 → item_of (conn_key ++ decimal n) ≡ Some (Conn n))
 
 -- an input that comes in parts prints what the whole input prints: what is taken from a part xs prints the first of it, and leaves the rest to print,
 -- whatever comes behind (PartLaws.parts_print)

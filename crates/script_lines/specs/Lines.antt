@@ -1,10 +1,9 @@
 -- 01, The script program: an input as lines, and all that a run prints of it.
-use Rattle.std.specs.Prelude.{ℕ, suc, ◌-◌, ◌<◌, ◌≡◌, Option, IfSome, cond, List, [], ◌∷◌, ◌++◌, length, take, drop, eqb, ltb}
+use Rattle.std.specs.Prelude.{ℕ, suc, ◌<◌, ◌≡◌, Option, IfSome, cond, List, [], ◌∷◌, ◌++◌, length, take, drop, eqb, ltb}
 use Rattle.std.specs.Io.KnownBytes.{Appends}
 use Rattle.wire.specs.Output.{written}
-use Rattle.epmd_state.specs.Bytes.{registry_of}
-use Rattle.script_lines.specs.State.{Script, script_in}
-use Rattle.script_lines.specs.declared.script.Taken.{Taken}
+use Rattle.script_lines.specs.State.{Script, script_of}
+use Rattle.script_lines.specs.declared.run.Reading.{Reading}
 use Rattle.script_lines.specs.Script.{line_of, end_of, started}
 
 -- the characters before the first newline
@@ -55,12 +54,12 @@ take_of s held xs =
     })
     (record { script = s; held = kept (held ++ xs); bytes = []; rest = [] })
 
--- a call takes so from a part of n characters
-pub record Takes (t : Taking) (n : ℕ) (told : Taken) (registry out out' : List ℕ) : Type 0 where
-  pub script : script_in told.awaits registry ≡ t.script
-  pub held : told.held ≡ length t.held
-  pub next : told.next ≡ n - length t.rest
-  pub count : told.written ≡ length t.bytes
+-- a call takes so: it leaves the run and what is held so, tells the count written and the rest, and writes at the front of the output
+pub record Takes (t : Taking) (reading : Reading) (n : ℕ) (left out out' : List ℕ) : Type 0 where
+  pub script : script_of reading.run ≡ t.script
+  pub held : reading.held ≡ t.held
+  pub count : n ≡ length t.bytes
+  pub rest : left ≡ t.rest
   pub output : out' ≡ written t.bytes out
 
 -- of a part xs some bytes were printed, and the rest is still to be printed, whatever comes behind the part
@@ -80,16 +79,15 @@ PrintsAll input out out' = IfSome input (λ xs. length xs < 18446744073709551615
 -- ---- what is left where a write fails
 
 -- a line was taken that prints something, and its bytes may not have been written
-pub record TakesUnprinted (t : Taking) (n : ℕ) (registry out out' : List ℕ) : Type 0 where
-  pub told : Taken
-  pub takes : Takes t n told registry out out'
-  pub prints : 0 < told.written
+pub record TakesUnprinted (t : Taking) (reading : Reading) (out out' : List ℕ) : Type 0 where
+  pub takes : Takes t reading (length t.bytes) t.rest out out'
+  pub prints : 0 < length t.bytes
 
--- of a part xs all that stands before a line was printed, and that line prints something: the registry is as it leaves it
-pub record PrintedUntil (s : Script) (held xs : List ℕ) (registry : List ℕ) : Type 0 where
+-- of a part xs all that stands before a line was printed, and that line prints something: the run is as it leaves it
+pub record PrintedUntil (s : Script) (held xs : List ℕ) (reading : Reading) : Type 0 where
   pub script : Script
   pub held' : List ℕ
   pub rest : List ℕ
   pub before : Printed s held xs script held' rest
-  pub after : registry_of registry ≡ (take_of script held' rest).script.registry
+  pub after : script_of reading.run ≡ (take_of script held' rest).script
   pub prints : 0 < length (take_of script held' rest).bytes

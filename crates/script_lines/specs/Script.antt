@@ -1,5 +1,5 @@
 -- 01, The script program: a run, line by line.
-use Rattle.std.specs.Prelude.{ℕ, Bool, true, false, cond, List, [], ◌≡◌, length}
+use Rattle.std.specs.Prelude.{ℕ, Bool, true, false, cond, List, [], ◌≡◌, length, Option, Some, None}
 use Rattle.wire.specs.Output.{written}
 use Rattle.epmd_rules.specs.State.{Registry}
 use Rattle.epmd_rules.specs.Registry.{new_of}
@@ -7,31 +7,31 @@ use Rattle.epmd_rules.specs.Serve.{request_of}
 use Rattle.epmd_rules.specs.Requests.{room}
 use Rattle.epmd_rules.specs.Serve as mapper
 use Rattle.script_lines.specs.declared.line.Item.{Item}
-use Rattle.script_lines.specs.declared.line.Item.TheVariants.{Op, Conn, Hex, Malformed}
+use Rattle.script_lines.specs.declared.line.Item.TheVariants.{Op, Conn, Hex}
 use Rattle.script_lines.specs.declared.script.Awaits.{Awaits}
 use Rattle.script_lines.specs.declared.script.Awaits.TheVariants.{Operation, Connection, Frame, Nothing}
 use Rattle.script_lines.specs.declared.script.Plan.{Plan}
 use Rattle.script_lines.specs.declared.script.Plan.TheVariants.{Await, Serve, Fail, Rest}
-use Rattle.script_lines.specs.declared.script.Stepped.{Stepped}
-use Rattle.script_lines.specs.State.{Script, script_in}
+use Rattle.script_lines.specs.declared.script.Run.{Run}
+use Rattle.script_lines.specs.State.{Script, script_of}
 use Rattle.script_lines.specs.Line.{item_of, frame_of}
 use Rattle.script_lines.specs.Answer.{answer_text, result_number}
 
 -- "It reads standard input as lines in fixed order: `op=req`, `conn=` .., `hex=`"; "A line out of order, malformed or over 800 characters .. ends
 -- the run": whatever stands behind it is not looked at
-abbrev pub plan_of : Awaits → Item → Plan
-plan_of Operation Op = Await Connection
-plan_of Operation (Conn n) = Fail
-plan_of Operation Hex = Fail
-plan_of Operation Malformed = Fail
-plan_of Connection Op = Fail
-plan_of Connection (Conn n) = Await (Frame n)
-plan_of Connection Hex = Fail
-plan_of Connection Malformed = Fail
-plan_of (Frame c) Op = Fail
-plan_of (Frame c) (Conn n) = Fail
-plan_of (Frame c) Hex = Serve c
-plan_of (Frame c) Malformed = Fail
+abbrev pub plan_of : Awaits → Option Item → Plan
+plan_of Operation (Some Op) = Await Connection
+plan_of Operation (Some (Conn n)) = Fail
+plan_of Operation (Some Hex) = Fail
+plan_of Operation None = Fail
+plan_of Connection (Some Op) = Fail
+plan_of Connection (Some (Conn n)) = Await (Frame n)
+plan_of Connection (Some Hex) = Fail
+plan_of Connection None = Fail
+plan_of (Frame c) (Some Op) = Fail
+plan_of (Frame c) (Some (Conn n)) = Fail
+plan_of (Frame c) (Some Hex) = Serve c
+plan_of (Frame c) None = Fail
 plan_of Nothing i = Rest
 
 -- "input that ends inside a group of three"
@@ -52,11 +52,10 @@ pub record Outcome : Type 0 where
   pub script : Script
   pub bytes : List ℕ
 
--- the step comes to this outcome: it tells the line that is awaited next and the count written, leaves the registry in its bytes, and writes at the
--- front of the output
-pub record Steps (o : Outcome) (told : Stepped) (registry out out' : List ℕ) : Type 0 where
-  pub script : script_in told.awaits registry ≡ o.script
-  pub count : told.written ≡ length o.bytes
+-- the step comes to this outcome: it leaves the run so, tells the count written, and writes at the front of the output
+pub record Steps (o : Outcome) (run : Run) (n : ℕ) (out out' : List ℕ) : Type 0 where
+  pub script : script_of run ≡ o.script
+  pub count : n ≡ length o.bytes
   pub output : out' ≡ written o.bytes out
 
 -- the mapper's answer to a frame

@@ -6,6 +6,7 @@ ghost use Rattle.script_lines.specs.Answer.{answer_text};
 use crate::text::put_hex;
 
 // Writes `result=` and `hex=`, and tells their length.
+#[tactic(auto, using(crate::proofs::AnswerLaws::answer_length))]
 pub(crate) fn put_answer(out: &mut [u8], res: u32, reply: &[u8]) -> usize
     requires { length (answer_text res reply.now) ≤ length out.old }
     ensures value { result ≡ length (answer_text res reply.now) }

@@ -1,8 +1,8 @@
 // What a line is (01, The script program), without its newline.
-ghost use Rattle.std.specs.Prelude.{◌≡◌, true, cond, leb};
+ghost use Rattle.std.specs.Prelude.{◌≡◌, true, cond, leb, Some, None};
 ghost use Rattle.wire.specs.Decimal.{value};
 ghost use Rattle.script_lines.specs.Text.{all_digits};
-ghost use Rattle.script_lines.specs.Line.{starts_with, conn_item, hex_item, item_of};
+ghost use Rattle.script_lines.specs.Line.{conn_item, hex_item, item_of};
 
 use crate::text::{all_digits, is_hex, leads_zero};
 
@@ -11,74 +11,53 @@ pub enum Item {
     Op,
     Conn(u32),
     Hex,
-    Malformed,
 }
 
 // The number that some digits say, if it is below 2 to the 32.
-fn small_item(text: &[u8]) -> Item
+fn small_number(text: &[u8]) -> Option<u32>
     requires { all_digits 10 text.now ≡ true }
-    ensures { result ≡ cond (leb (value text.now) 4294967295) (Item.Conn (value text.now)) Item.Malformed }
+    ensures { result ≡ cond (leb (value text.now) 4294967295) (Some (value text.now)) None }
 {
-    let mut v: u64 = 0;
-    let mut i = 0;
-    while i < text.len() {
-        v = v * 10 + (text[i] - 48) as u64;
-        if 4294967295 < v {
-            return Item::Malformed;
-        }
-        i += 1;
+    let mut v: u32 = 0;
+    for &c in text {
+        v = v.checked_mul(10)?.checked_add((c - 48) as u32)?;
     }
-    Item::Conn(v as u32)
+    Some(v)
 }
 
-fn conn_item(text: &[u8]) -> Item
+fn conn_item(text: &[u8]) -> Option<Item>
     ensures { result ≡ conn_item text.now }
 {
-    if text.len() < 1 {
-        return Item::Malformed;
+    if text.is_empty() {
+        return None;
     }
     if !all_digits(text, 10) {
-        return Item::Malformed;
+        return None;
     }
     if leads_zero(text) {
-        return Item::Malformed;
+        return None;
     }
-    small_item(text)
+    Some(Item::Conn(small_number(text)?))
 }
 
-fn hex_item(text: &[u8]) -> Item
+fn hex_item(text: &[u8]) -> Option<Item>
     ensures { result ≡ hex_item text.now }
 {
-    if is_hex(text) {
-        return Item::Hex;
-    }
-    Item::Malformed
+    if is_hex(text) { Some(Item::Hex) } else { None }
 }
 
-fn starts_with(key: &[u8], line: &[u8]) -> bool
-    ensures { result ≡ starts_with key.now line.now }
-{
-    let n = key.len();
-    if line.len() < n {
-        return false;
-    }
-    wire::same_bytes(wire::get_part(line, 0, n), key)
-}
-
-pub fn item_of(line: &[u8]) -> Item
+// Nothing: the line is malformed.
+pub fn item_of(line: &[u8]) -> Option<Item>
     ensures { result ≡ item_of line.now }
 {
     if 800 < line.len() {
-        return Item::Malformed;
+        return None;
     }
-    if wire::same_bytes(line, b"op=req") {
-        return Item::Op;
+    if line == b"op=req".as_slice() {
+        return Some(Item::Op);
     }
-    if starts_with(b"conn=", line) {
-        return conn_item(&line[5..]);
+    if let Some(number) = line.strip_prefix(b"conn=") {
+        return conn_item(number);
     }
-    if starts_with(b"hex=", line) {
-        return hex_item(&line[4..]);
-    }
-    Item::Malformed
+    hex_item(line.strip_prefix(b"hex=")?)
 }

@@ -1,58 +1,49 @@
 // Hexadecimal text both ways, and digits of decimal text (01, The script program).
-ghost use Rattle.std.specs.Prelude.{◌≡◌, ◌+◌, ◌*◌, ◌≤◌, ◌<◌, true, length};
+ghost use Rattle.std.specs.Prelude.{◌≡◌, ◌+◌, ◌*◌, ◌≤◌, ◌<◌, true, cond, ltb, length, Some, None};
 ghost use Rattle.wire.specs.Output.{overwrite, written};
 ghost use Rattle.script_lines.specs.Text.{digit_value, digit_char, all_digits, is_hex, unhex, hex_of, leads_zero};
 
-// A character's value as a digit, or 16.
-fn digit_value(c: u8) -> u8
-    ensures { result ≡ digit_value c }
+// A character's value as a digit of lower-case hexadecimal. Not `to_digit` of std, which takes capitals too.
+fn digit_value(c: u8) -> Option<u8>
+    ensures { result ≡ cond (ltb (digit_value c) 16) (Some (digit_value c)) None }
 {
-    if c < 48 {
-        return 16;
+    match c {
+        b'0'..=b'9' => Some(c - 48),
+        b'a'..=b'f' => Some(c - 87),
+        _ => None,
     }
-    if c <= 57 {
-        return c - 48;
+}
+
+// Whether a character is a digit below the radix.
+fn is_digit(c: u8, radix: u8) -> bool
+    requires { radix ≤ 16 }
+    ensures { result ≡ ltb (digit_value c) radix }
+{
+    match digit_value(c) {
+        Some(v) => v < radix,
+        None => false,
     }
-    if c < 97 {
-        return 16;
-    }
-    if c <= 102 {
-        return c - 87;
-    }
-    16
 }
 
 // Whether every character is a digit below the radix.
 pub(crate) fn all_digits(text: &[u8], radix: u8) -> bool
+    requires { radix ≤ 16 }
     ensures { result ≡ all_digits radix text.now }
 {
-    let mut i = 0;
-    while i < text.len() {
-        if radix <= digit_value(text[i]) {
-            return false;
-        }
-        i += 1;
-    }
-    true
+    text.iter().all(|c| is_digit(*c, radix))
 }
 
 pub(crate) fn is_hex(text: &[u8]) -> bool
     ensures { result ≡ is_hex text.now }
 {
-    if text.len() % 2 != 0 {
-        return false;
-    }
-    all_digits(text, 16)
+    text.len() % 2 == 0 && all_digits(text, 16)
 }
 
 // Whether a zero leads and is not the only digit.
 pub(crate) fn leads_zero(text: &[u8]) -> bool
     ensures { result ≡ leads_zero text.now }
 {
-    if text.len() < 2 {
-        return false;
-    }
-    text[0] == 48
+    1 < text.len() && text[0] == b'0'
 }
 
 // The byte that two digits say.
@@ -60,7 +51,7 @@ fn byte_of(a: u8, b: u8) -> u8
     requires { (digit_value a < 16) × (digit_value b < 16) }
     ensures { result ≡ digit_value a * 16 + digit_value b }
 {
-    digit_value(a) * 16 + digit_value(b)
+    digit_value(a).unwrap() * 16 + digit_value(b).unwrap()
 }
 
 // Writes the bytes that hexadecimal text says, and tells how many they are.
@@ -70,25 +61,18 @@ pub(crate) fn get_hex(text: &[u8], out: &mut [u8]) -> usize
     ensures value { result ≡ length (unhex text.now) }
     ensures out_after { out.new ≡ written (unhex text.now) out.old }
 {
-    let n = text.len() / 2;
-    let mut k: usize = 0;
-    while k < n {
-        let i = 2 * k;
-        let j = i + 1;
-        out[k] = byte_of(text[i], text[j]);
-        k += 1;
+    let pairs = text.as_chunks::<2>().0;
+    for (k, pair) in pairs.iter().enumerate() {
+        out[k] = byte_of(pair[0], pair[1]);
     }
-    n
+    pairs.len()
 }
 
 fn digit_char(v: u8) -> u8
     requires { v < 16 }
     ensures { result ≡ digit_char v }
 {
-    if v < 10 {
-        return 48 + v;
-    }
-    87 + v
+    if v < 10 { b'0' + v } else { 87 + v }
 }
 
 // Writes bytes as hexadecimal text at an offset.
@@ -96,11 +80,8 @@ pub(crate) fn put_hex(out: &mut [u8], at: usize, src: &[u8])
     requires { at + 2 * length src.now ≤ length out.old }
     ensures { out.new ≡ overwrite out.old at (hex_of src.now) }
 {
-    let mut i: usize = 0;
-    while i < src.len() {
-        let b = src[i];
+    for (i, &b) in src.iter().enumerate() {
         let pair = [digit_char(b / 16), digit_char(b % 16)];
         wire::put_bytes(out, at + 2 * i, &pair);
-        i += 1;
     }
 }

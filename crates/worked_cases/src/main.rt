@@ -4,7 +4,6 @@
 #![tactic(auto)]
 
 use bounds::{show_bounds, show_results};
-use cases::print::word;
 use epmd::{ROOM, SIZE};
 use flags::show_flags;
 use handshake::{ROOM as MESSAGE, SIZE as ENDPOINT};
@@ -24,26 +23,23 @@ pub(crate) fn ask(
     frame: &[u8],
 ) -> io::Result<()> {
     let mut out = [0u8; ROOM];
-    let answer = epmd::request(state, connection, frame, &mut out);
-    let told = answer.numbers();
-    if told.refusal == 0 {
-        bytes(to, first(&out, told.written))
-    } else {
-        print::refusal(to, told.refusal)
+    match epmd::request(state, connection, frame, &mut out) {
+        Ok(n) => bytes(to, &out, n),
+        Err(refusal) => writeln!(to, "refused {}", refusal.number()),
     }
 }
 
 // C1 to C4, on one mapper: the frame of C1 and C4 is ALIVE2 of ride, port 4370.
 fn show_mapper(to: &mut impl Write, alive2: &[u8]) -> io::Result<()> {
     let mut state = [0u8; SIZE];
-    epmd::make(&mut state, 4369, 4);
-    word(to, b"C1: ")?;
+    let _ = epmd::make(&mut state, 4369, 4);
+    write!(to, "C1: ")?;
     ask(to, &mut state, 1, alive2)?;
-    word(to, b"C2: ")?;
+    write!(to, "C2: ")?;
     ask(to, &mut state, 2, b"\x00\x05zride")?;
-    word(to, b"C3: ")?;
+    write!(to, "C3: ")?;
     ask(to, &mut state, 2, b"\x00\x03zno")?;
-    word(to, b"C4: ")?;
+    write!(to, "C4: ")?;
     ask(to, &mut state, 2, alive2)
 }
 
@@ -53,26 +49,26 @@ fn show_messages(to: &mut impl Write) -> io::Result<()> {
     let mut b = [0u8; ENDPOINT];
     let mut out = [0u8; MESSAGE];
     let mut back = [0u8; MESSAGE];
-    handshake::calls::make(&mut a, b"a@b", 0x403000104, 7);
-    handshake::calls::make(&mut b, b"b@b", 0x403000104, 8);
-    handshake::calls::start(&mut a, b"b@b", &mut out);
-    word(to, b"C5: ")?;
-    bytes(to, first(&out, 20))?;
-    handshake::calls::arrive(&mut b);
-    handshake::calls::message(&mut b, 0, first(&out, 20), 9, b"", b"cookie", &mut back);
-    word(to, b"C6: ")?;
-    bytes(to, first(&back, 5))
+    let _ = handshake::calls::make(&mut a, b"a@b", 0x403000104, 7);
+    let _ = handshake::calls::make(&mut b, b"b@b", 0x403000104, 8);
+    let _ = handshake::calls::start(&mut a, b"b@b", &mut out);
+    write!(to, "C5: ")?;
+    bytes(to, &out, 20)?;
+    let _ = handshake::calls::arrive(&mut b);
+    let _ = handshake::calls::message(&mut b, 0, first(&out, 20), 9, b"", b"cookie", &mut back);
+    write!(to, "C6: ")?;
+    bytes(to, &back, 5)
 }
 
 // C7 and C8: how two names compare.
 fn compare(to: &mut impl Write, a: &[u8], b: &[u8]) -> io::Result<()> {
-    print::signed(to, wire::number_of(wire::compare(a, b)))
+    writeln!(to, "{}", wire::number_of(wire::compare(a, b)))
 }
 
 fn show_names(to: &mut impl Write) -> io::Result<()> {
-    word(to, b"C7: ")?;
+    write!(to, "C7: ")?;
     compare(to, b"a@b", b"a@bc")?;
-    word(to, b"C8: ")?;
+    write!(to, "C8: ")?;
     compare(to, b"b@a", b"a@z")
 }
 
@@ -80,8 +76,8 @@ fn show_names(to: &mut impl Write) -> io::Result<()> {
 fn show_text(to: &mut impl Write) -> io::Result<()> {
     let mut out = [0u8; 10];
     let n = wire::put_decimal(&mut out, 0, 0);
-    word(to, b"C9: ")?;
-    bytes(to, first(&out, n))
+    write!(to, "C9: ")?;
+    bytes(to, &out, n)
 }
 
 fn main(rt: HostRuntime) -> io::Result<()> {

@@ -1,5 +1,6 @@
 use mathlib.Core.Path.{◌∙◌, ap}
-use Rattle.epmd_rules.specs.declared.answer.Making.{Making}
+use Rattle.std.specs.Prelude.{Result}
+use Rattle.epmd_rules.specs.declared.refusal.Refusal.{Refusal}
 use Rattle.epmd_rules.specs.Answers.{making_number}
 use Rattle.epmd_rules.specs.Registry.{new_of}
 use Rattle.epmd_state.specs.Bytes.{registry_of, if_made}
@@ -9,6 +10,6 @@ pub returns : goal.returns
 returns c =
     let a = c.args in
     record {
-      told = c.number.ensures ∙ ap making_number c.make-making.ensures.answer;
-      registry = c.make-making.ensures.registry ∙ ap (λ (m : Making). if_made m (new_of a.port a.first).registry (registry_of a.r.now)) c.make-making.ensures.answer;
+      told = c.making_number.ensures ∙ ap making_number c.make.ensures.answer;
+      registry = c.make.ensures.registry ∙ ap (λ (m : Result Unit Refusal). if_made m (new_of a.port a.first).registry (registry_of a.r.now)) c.make.ensures.answer;
     }

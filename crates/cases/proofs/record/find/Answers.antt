@@ -1,51 +1,35 @@
-use Prim.Native.Nat.{◌<◌, ◌≤◌, ◌+◌}
-use lib.ListN.{length}
-use native.Mathlib.Omega.{arith}
-use borrow.Author.Tests.{le-leb, lt-leb}
+use Rattle.std.proofs.Common.{rules, ◌≡◌, None, ◌+◌, ◌<◌, ◌≤◌, length, le-leb}
+use Rattle.std.proofs.lemmas.Bool.{lt-leb}
 use Rattle.cases.specs.Record.{record_at}
-use borrow.Author.Rules.{rules}
 use Rattle.cases.proofs.record.find.Goals as goal
 
-pub returns-then-s-at : goal.returns-then-s-at
+pub returns-in_err-get-clause-value : goal.returns-in_err-get-clause-value
 unfolding record_at
-returns-then-s-at c =
-    let a = c.args in
-    let h : length a.s.now < a.at + 2 = omega arith in
-    record {
-      value = simp (lt-leb _ _ h);
-      start_le_end = search rules;
-    }
+returns-in_err-get-clause-value c =
+    let h : length c.args.input.now < c.args.at + 2 = search rules in
+    let e : record_at c.args.input.now c.args.at ≡ None = simp (lt-leb _ _ h) in
+    search (rules, e)
 
-pub returns-then-s-at-lt2 : goal.returns-then-s-at-lt2
+pub returns-then-branch-lt2-clause-value : goal.returns-then-branch-lt2-clause-value
 unfolding record_at
-returns-then-s-at-lt2 c =
-    let a = c.args in
-    let h : length a.s.now < a.at + 2 = omega arith in
-    record {
-      value = simp (lt-leb _ _ h);
-      start_le_end = search rules;
-    }
+returns-then-branch-lt2-clause-value c =
+    let h : length c.args.input.now < c.args.at + 2 = search rules in
+    simp (lt-leb _ _ h)
 
-pub returns-then-s-start : goal.returns-then-s-start
+pub returns-then-input-end-clause-value : goal.returns-then-input-end-clause-value
 unfolding record_at
-returns-then-s-start c =
+returns-then-input-end-clause-value c =
     let a = c.args in
-    let e = c.get16-n.ensures in
-    let h : a.at + 2 ≤ length a.s.now = omega arith in
-    let l : length a.s.now < a.at + 2 + c.get16-n.result = omega arith in
-    record {
-      value = simp (le-leb _ _ h, lt-leb _ _ (rw e at l));
-      start_le_end = search rules;
-    }
+    let e = c.get-size.ensures in
+    let h : a.at + 2 ≤ length a.input.now = search rules in
+    let l : length a.input.now < a.at + 2 + c.get-size.result = search rules in
+    simp (le-leb _ _ h, lt-leb _ _ (rw e at l))
 
-pub returns : goal.returns
+pub returns-clause-value : goal.returns-clause-value
 unfolding record_at
-returns c =
+returns-clause-value c =
     let a = c.args in
-    let e = c.get16-n.ensures in
-    let h : a.at + 2 ≤ length a.s.now = omega arith in
-    let l : a.at + 2 + c.get16-n.result ≤ length a.s.now = omega arith in
-    record {
-      value = simp (le-leb _ _ h, le-leb _ _ (rw e at l), e);
-      start_le_end = search rules;
-    }
+    let e = c.get-size.ensures in
+    let h : a.at + 2 ≤ length a.input.now = search rules in
+    let l : a.at + 2 + c.get-size.result ≤ length a.input.now = search rules in
+    simp (le-leb _ _ h, le-leb _ _ (rw e at l), e)

@@ -1,14 +1,10 @@
-use mathlib.Core.Path.{refl, ◌∙◌, ap}
+use mathlib.Core.Path.{refl, ap, ◌∙◌}
 use mathlib.Core.List.{List}
-use borrow.Author.Tests.{eq-eqb, ne_eqb}
+use borrow.Author.Tests.{ne_eqb}
 use Rattle.epmd_rules.specs.declared.registration.Registration.{Registration}
 use Rattle.epmd_rules.specs.Registry.{new_of, fresh}
 use Rattle.epmd_state.proofs.BytesLaws.{none_there}
 use Rattle.epmd.proofs.calls.make.Goals as goal
-
-pub returns-then-first-eq0 : goal.returns-then-first-eq0
-unfolding new_of
-returns-then-first-eq0 c = rw (eq-eqb c.args.first 0 c.if-first-eq0.true) (record { answer = refl; registry = refl })
 
 pub returns : goal.returns
 unfolding new_of fresh

@@ -1,22 +1,23 @@
-use mathlib.Core.Path.{refl, sym, ◌∙◌}
+use mathlib.Core.Path.{sym, ◌∙◌}
 use mathlib.Core.List.{[]}
 use lib.ListN.{length}
-use Rattle.epmd_rules.specs.declared.answer.Answer.TheVariants.{Written}
+use Rattle.std.proofs.lemmas.Result.{err_from_is_err_and}
 use Rattle.epmd_client_rules.specs.Requests.{names_frame, names_writing}
 use Rattle.epmd_client_rules.proofs.WritingLaws.{writes_none, writes_frame, names_held, names_size}
 use Rattle.epmd_client.proofs.requests.names_request.Goals as goal
 
-pub returns-in_default : goal.returns-in_default
+pub returns-in_err-count : goal.returns-in_err-count
 unfolding names_writing
-returns-in_default c =
-    let o = c.args.out.now in
-    writes_none [] names_frame 3 (length o) names_size _ c.decide_room-answer.ensures _ o c.in_default.is
+returns-in_err-count c =
+    let a = c.args in
+    let p = err_from_is_err_and c.from_residual.result c.from_residual.ensures.1 in
+    rw (p.1, p.2) (writes_none [] names_frame 3 (length a.out.now) names_size _ (sym c.in_err-count.was ∙ c.decide_room.ensures) a.out.now)
 
 pub put_names-requires : goal.put_names-requires
-put_names-requires c = names_held (length c.args.out.now) _ (sym c.decide_room-answer.ensures ∙ c.in-Written.is)
+put_names-requires c = let a = c.args in names_held (length a.out.now) _ (sym c.decide_room.ensures ∙ c.in_ok-count.was)
 
 pub returns : goal.returns
 unfolding names_writing
 returns c =
-    let o = c.args.out.now in
-    writes_frame [] names_frame 3 (length o) names_size (Written _) (sym c.in-Written.is ∙ c.decide_room-answer.ensures) _ o _ refl c.put_names.ensures
+    let a = c.args in
+    writes_frame [] names_frame 3 (length a.out.now) names_size _ (sym c.in_ok-count.was ∙ c.decide_room.ensures) a.out.now _ c.put_names.ensures

@@ -1,59 +1,36 @@
 use Prim.Native.Nat.{ℕ, ◌+◌, ◌*◌, ◌-◌}
 use mathlib.Core.Path.{◌≡◌, sym, ap, ◌∙◌}
 use native.Mathlib.Omega.{arith}
-use borrow.Author.Rules.{rules}
-use Rattle.epmd_client_names.specs.Text.{port_from}
-use Rattle.epmd_client_names.proofs.TextLaws.{from_stop, from_zero, from_big, from_go, port_none, port_some}
+use Rattle.epmd_client_names.specs.Text.{closed_at, port_from}
+use Rattle.epmd_client_names.proofs.TextLaws.{from_go, port_some}
+use Rattle.epmd_client_names.proofs.PortLaws.{digit_sound}
 use Rattle.epmd_client_names.proofs.text.port_at.Goals as goal
 
-pub returns-then-v-gt9 : goal.returns-then-v-gt9
-returns-then-v-gt9 c =
+pub loop-j-init : goal.loop-j-init
+loop-j-init c =
     let a = c.args in
-    sym (port_none a.s.now a.i (omega (arith, c.digit_at-v.ensures.0)))
+    let v = c.in_ok-v.v in
+    let e = sym c.digit_at.ensures ∙ c.in_ok-v.was in
+    let k : 4 ≡ a.i + 5 - (a.i + 1) = omega arith in
+    (omega (arith, (digit_sound a.s.now a.i v e).1), port_some a.s.now a.i v e ∙ ap (λ (k : ℕ). port_from k a.s.now (a.i + 1) v) k)
 
-pub loop-k-init : goal.loop-k-init
-loop-k-init c =
+pub loop-j-preserved : goal.loop-j-preserved
+loop-j-preserved c =
     let a = c.args in
-    let e = c.digit_at-v.ensures.0 in
-    (omega arith, omega (arith, c.digit_at-v.ensures.1), omega arith, port_some a.s.now a.i (omega (arith, e)) ∙ ap (λ (v : ℕ). port_from 4 a.s.now (a.i + 1) v) (sym e))
-
-pub returns-then-d-gt9 : goal.returns-then-d-gt9
-returns-then-d-gt9 c =
-    let a = c.args in
-    let l = c.loop-k in
-    c.closed.ensures ∙ sym (l.invariant.3 ∙ from_stop a.s.now l.j l.v l.k (omega (arith, c.digit_at-d.ensures.0)))
-
-pub returns-then-v-eq0 : goal.returns-then-v-eq0
-returns-then-v-eq0 c =
-    let a = c.args in
-    let l = c.loop-k in
-    sym (l.invariant.3 ∙ from_zero a.s.now l.j l.v (omega (arith, c.digit_at-d.ensures.0)) l.k (search rules) c.if-v-eq0.true)
-
-pub returns-then-v-gt6553 : goal.returns-then-v-gt6553
-returns-then-v-gt6553 c =
-    let a = c.args in
-    let l = c.loop-k in
-    sym (l.invariant.3 ∙ from_big a.s.now l.j l.v (omega (arith, c.digit_at-d.ensures.0)) c.if-v-eq0.false l.k (search rules) c.if-v-gt6553.true)
-
-pub overflow_add-v : goal.overflow_add-v
-overflow_add-v c = omega (arith, c.digit_at-d.ensures.1)
-
-pub loop-k-preserved : goal.loop-k-preserved
-loop-k-preserved c =
-    let a = c.args in
-    let l = c.loop-k in
-    let e = c.digit_at-d.ensures.0 in (
-      omega arith,
-      omega (arith, c.digit_at-d.ensures.1),
-      omega arith,
-      l.invariant.3 ∙ from_go a.s.now l.j l.v (omega (arith, e)) c.if-v-eq0.false l.k (search rules) (search rules)
-          ∙ ap (λ (d : ℕ). port_from (l.k - 1) a.s.now (l.j + 1) (l.v * 10 + d)) (sym e),
+    let l = c.loop-j in
+    let d = c.in-Some.d in
+    let e = sym c.digit_at-in-loop-j.ensures ∙ c.in-Some.is in
+    let k : a.i + 5 - l.j - 1 ≡ a.i + 5 - (l.j + 1) = omega arith in (
+      omega (arith, (digit_sound a.s.now l.j d e).1),
+      l.invariant.1 ∙ from_go a.s.now l.j l.v d e (λ z. omega (arith, z)) (a.i + 5 - l.j) (omega arith) c.if-v-gt6553.false
+          ∙ ap (λ (m : ℕ). port_from m a.s.now (l.j + 1) (l.v * 10 + d)) k,
     )
 
 pub returns : goal.returns
 unfolding port_from
 returns c =
     let a = c.args in
-    let l = c.loop-k in
-    let z : l.k ≡ 0 = omega arith in
-    c.closed-2.ensures ∙ sym (l.invariant.3 ∙ ap (λ (k : ℕ). port_from k a.s.now l.j l.v) z)
+    let l = c.loop-j in
+    let q : a.i + 5 ≡ l.j = omega arith in
+    let z : a.i + 5 - l.j ≡ 0 = omega arith in
+    c.closed-2.ensures ∙ ap (λ (j : ℕ). closed_at a.s.now j l.v) q ∙ sym (l.invariant.1 ∙ ap (λ (k : ℕ). port_from k a.s.now l.j l.v) z)

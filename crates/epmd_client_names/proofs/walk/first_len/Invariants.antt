@@ -1,4 +1,3 @@
-use Prim.Native.Nat.{◌-◌, ◌≤◌}
 use mathlib.Core.List.{List}
 use Rattle.epmd_client_rules.specs.Readings.{Line}
 use Rattle.epmd_client_names.specs.Survey.{FirstBelow}
@@ -6,7 +5,4 @@ use Rattle.epmd_client_names.specs.Walk.{Lead}
 use Rattle.epmd_client_names.proofs.walk.first_len.Given as goal
 
 abbrev pub invariant-loop-n : goal.invariant-loop-n
-invariant-loop-n l = (l.n ≤ 256) × ((x : List Line) → Lead l.s l.p l.k x → FirstBelow l.n x → ⊥)
-
-abbrev pub decreases-loop-n : goal.decreases-loop-n
-decreases-loop-n l = 256 - l.n
+invariant-loop-n l = (x : List Line) → Lead l.s l.p l.k x → FirstBelow l.n x → ⊥

@@ -10,8 +10,11 @@ use Rattle.epmd_rules.specs.Replies.{name_word, port_word}
 use Rattle.epmd_rules.proofs.ReplyLaws.{line_split, line_length}
 use Rattle.epmd_messages.proofs.replies.put_name_line.Goals as goal
 
-pub returns : goal.returns
-returns c =
+pub returns-clause-value : goal.returns-clause-value
+returns-clause-value c = omega (arith, c.put_port.ensures.value, line_length c.args.name.now c.args.port)
+
+pub returns-clause-out_after : goal.returns-clause-out_after
+returns-clause-out_after c =
     let a = c.args in
     let pre = c.requires in
     let o = a.out.now in
@@ -28,8 +31,4 @@ returns c =
     let i = j + 9 + c.put_port.result in
     let e5 = c.put_bytes-4.ensures ∙ ap (λ (x : List ℕ). overwrite x i (10 ∷ [])) e4
     ∙ overwrite_join o at (((name_word ++ n) ++ port_word) ++ d) (10 ∷ []) i (omega arith) (omega (arith, k.value, length-append n port_word, length-append (n ++ port_word) d)) in
-    record {
-      value = omega (arith, k.value, line_length n a.port);
-      upper_bound = omega (arith, pre.1, k.upper_bound);
-      out_after = e5 ∙ ap (overwrite o at) (line_split n a.port);
-    }
+    e5 ∙ ap (overwrite o at) (line_split n a.port)

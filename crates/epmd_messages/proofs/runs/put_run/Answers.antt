@@ -6,16 +6,10 @@ use lib.ListN.{length}
 use Rattle.wire.specs.Number.{be}
 use Rattle.wire.specs.Output.{overwrite}
 use Rattle.wire.proofs.OutputLaws.{overwrite_join}
-use borrow.Author.Rules.{rules}
 use Rattle.epmd_messages.proofs.runs.put_run.Goals as goal
 
-pub returns : goal.returns
-returns c =
+pub returns-clause-out_after : goal.returns-clause-out_after
+returns-clause-out_after c =
     let a = c.args in
-    let o = a.out.now in
     let b = a.bytes.now in
-    let e = c.put_bytes.ensures ∙ ap (λ (l : List ℕ). overwrite l (a.at + 2) b) c.put16.ensures ∙ overwrite_join o a.at (be 2 (length b)) b (a.at + 2) (omega (arith, c.requires)) refl in
-    record {
-      value = search rules;
-      out_after = e;
-    }
+    c.put_bytes.ensures ∙ ap (λ (l : List ℕ). overwrite l (a.at + 2) b) c.put.ensures ∙ overwrite_join a.out.now a.at (be 2 (length b)) b (a.at + 2) (omega (arith, c.requires)) refl

@@ -10,16 +10,16 @@ use borrow.Author.Rules.{rules}
 use Rattle.epmd_state.proofs.entry.entry_of.Goals as goal
 
 pub held-name-requires : goal.held-name-requires
-held-name-requires c = ap length c.get_part.ensures ∙ part_length 1 255 c.args.bytes.now (search rules)
+held-name-requires c = ap length c.get_part.ensures ∙ part_length 1 255 c.args.place.now (search rules)
 
 pub held-extra-requires : goal.held-extra-requires
-held-extra-requires c = ap length c.get_part-2.ensures ∙ part_length 257 128 c.args.bytes.now (search rules)
+held-extra-requires c = ap length c.get_part-2.ensures ∙ part_length 257 128 c.args.place.now (search rules)
 
 pub returns : goal.returns
 unfolding entry_by
 returns c =
-    let n = c.held-name.ensures ∙ ap₂ (λ (x : List ℕ) (n : ℕ). held_of x n) c.get_part.ensures c.get8.ensures in
-    let e = c.held-extra.ensures ∙ ap₂ (λ (x : List ℕ) (n : ℕ). held_extra x n) c.get_part-2.ensures c.get8-2.ensures in
+    let n = c.held-name.ensures ∙ ap₂ (λ (x : List ℕ) (n : ℕ). held_of x n) c.get_part.ensures c.get.ensures in
+    let e = c.held-extra.ensures ∙ ap₂ (λ (x : List ℕ) (n : ℕ). held_extra x n) c.get_part-2.ensures c.get-2.ensures in
     let e4 = c.kind.ensures in
     let e5 = c.protocol.ensures in
     let e6 = c.port.ensures in

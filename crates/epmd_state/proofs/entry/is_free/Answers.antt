@@ -11,7 +11,7 @@ use Rattle.epmd_state.proofs.entry.is_free.Goals as goal
 pub returns : goal.returns
 unfolding is_free
 returns c =
-    let b = c.args.bytes.now in
-    let n = c.get8.result in
+    let b = c.args.place.now in
+    let n = c.get.result in
     let k : n ≤ 255 = search rules in
-    ap (λ (m : ℕ). eqb m 0) (sym (ap length (name_here b n c.get8.ensures k) ∙ part_length 1 n b (search rules)))
+    ap (λ (m : ℕ). eqb m 0) (sym (ap length (name_here b n c.get.ensures k) ∙ part_length 1 n b (search rules)))

@@ -44,17 +44,17 @@ module _ (b : List ℕ) (k : ℕ) (e : k ≡ be_at 1 0 b) (h : k ≤ 255) (l : l
 pub returns-then-n-gt-NAME_ROOM : goal.returns-then-n-gt-NAME_ROOM
 returns-then-n-gt-NAME_ROOM c =
     let a = c.args in
-    let k : c.get8-len.result ≤ 255 = search rules in
-    other_length a.bytes.now c.get8-len.result c.get8-len.ensures k (search rules) a.n a.last (λ q. omega (arith, k, q, c.if-n-gt-NAME_ROOM.true))
+    let k : c.get-len.result ≤ 255 = search rules in
+    other_length a.place.now c.get-len.result c.get-len.ensures k (search rules) a.n a.last (λ q. omega (arith, k, q, c.if-n-gt-NAME_ROOM.true))
 
-pub returns-then-get8-last : goal.returns-then-get8-last
-returns-then-get8-last c =
+pub returns-then-get-last : goal.returns-then-get-last
+returns-then-get-last c =
     let a = c.args in
-    let k : c.get8-len.result ≤ 255 = search rules in
-    other_last a.bytes.now c.get8-len.result c.get8-len.ensures k (search rules) a.n a.last (λ q. c.if-get8-last.true (c.get8.ensures ∙ ap (λ (j : ℕ). be_at 1 j a.bytes.now) (omega arith) ∙ q))
+    let k : c.get-len.result ≤ 255 = search rules in
+    other_last a.place.now c.get-len.result c.get-len.ensures k (search rules) a.n a.last (λ q. c.if-get-last.true (c.get.ensures ∙ ap (λ (j : ℕ). be_at 1 j a.place.now) (omega arith) ∙ q))
 
 pub returns : goal.returns
 returns c =
     let a = c.args in
-    let k : c.get8-len.result ≤ 255 = search rules in
-    this-last a.bytes.now c.get8-len.result c.get8-len.ensures k (search rules) a.n a.last (ap (λ (j : ℕ). be_at 1 j a.bytes.now) (omega arith) ∙ sym c.get8.ensures ∙ omega (arith, c.if-get8-last.false))
+    let k : c.get-len.result ≤ 255 = search rules in
+    this-last a.place.now c.get-len.result c.get-len.ensures k (search rules) a.n a.last (ap (λ (j : ℕ). be_at 1 j a.place.now) (omega arith) ∙ sym c.get.ensures ∙ omega (arith, c.if-get-last.false))

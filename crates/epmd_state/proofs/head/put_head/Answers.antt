@@ -14,7 +14,7 @@ pub returns : goal.returns
 returns c =
     let a = c.args in
     let st = a.state.now in
-    let e : c.put32.new.out ≡ overwrite st 0 (be 2 a.port ++ be 4 a.next) =
-    c.put32.ensures ∙ ap (λ (x : List ℕ). overwrite x 2 (be 4 a.next)) c.put16.ensures
+    let e : c.put-2.new.out ≡ overwrite st 0 (be 2 a.port ++ be 4 a.next) =
+    c.put-2.ensures ∙ ap (λ (x : List ℕ). overwrite x 2 (be 4 a.next)) c.put.ensures
     ∙ overwrite_join st 0 (be 2 a.port) (be 4 a.next) 2 (omega arith) (omega arith) in
     ap registry_of e ∙ head_here st a.port a.next (search rules) (search rules) (search rules)

@@ -14,93 +14,89 @@ use mathlib.Core.List.{List}
 use mathlib.Core.Path.{sym, ap, ◌∙◌}
 use Prim.Native.Nat.{ℕ}
 use Rattle.handshake_state.specs.Bytes.{endpoint_of}
-use borrow.Author.Rules.{rules}
 use Rattle.handshake.proofs.message.by_stage.Goals as goal
 
-pub recv_challenge_reply-requires : goal.recv_challenge_reply-requires
-recv_challenge_reply-requires c =
-    let k = c.args.cookie.now in
-    (c.requires.0, c.requires.1, fit_reply k (ap (λ (st : Stage). fit st k k) (sym c.in-AwaitsReply.is) ∙ c.requires.2), c.requires.3, search rules)
+pub invariant_of-recv_challenge_reply : goal.invariant_of-recv_challenge_reply
+invariant_of-recv_challenge_reply c =
+    let k = c.args.cookie.now in record { short = fit_reply k (ap (λ (st : Stage). fit st k k) (sym c.in-AwaitsReply.is) ∙ c.requires.0) }
 
-pub recv_challenge-requires : goal.recv_challenge-requires
-recv_challenge-requires c =
-    let k = c.args.cookie.now in
-    (c.requires.0, c.requires.1, fit_challenge k (ap (λ (st : Stage). fit st k k) (sym c.in-AwaitsChallenge.is) ∙ c.requires.2), c.requires.3, search rules)
+pub invariant_of-recv_challenge : goal.invariant_of-recv_challenge
+invariant_of-recv_challenge c =
+    let k = c.args.cookie.now in record { short = fit_challenge k (ap (λ (st : Stage). fit st k k) (sym c.in-AwaitsChallenge.is) ∙ c.requires.0) }
 
-pub recv_challenge_ack-requires : goal.recv_challenge_ack-requires
-recv_challenge_ack-requires c =
-    let k = c.args.cookie.now in
-    (search rules, c.requires.1, fit_ack k (ap (λ (st : Stage). fit st k k) (sym c.in-AwaitsAck.is) ∙ c.requires.2), search rules)
+pub invariant_of-recv_challenge_ack : goal.invariant_of-recv_challenge_ack
+invariant_of-recv_challenge_ack c =
+    let k = c.args.cookie.now in record { short = fit_ack k (ap (λ (st : Stage). fit st k k) (sym c.in-AwaitsAck.is) ∙ c.requires.0) }
 
 pub returns-in-Free : goal.returns-in-Free
 unfolding expected settled finished
 returns-in-Free c =
     let a = c.args in
     let k = a.cookie.now in
-    let sl = slot_at ((endpoint_of a.state.now)) a.at in
-    let d : Stage → Done = λ st. concluded k k ((endpoint_of a.state.now)) a.at (stage_plan (expected ((endpoint_of a.state.now)) sl a.challenge a.body.now st)) in
-    settle (d a.stage) (refused ((endpoint_of a.state.now)) a.at UnknownTag) (ap d c.in-Free.is) a.out.now c.refuse.ensures (sym (written_none a.out.now))
+    let sl = slot_at (endpoint_of a.state.now) a.at in
+    let d : Stage → Done = λ st. concluded k k (endpoint_of a.state.now) a.at (stage_plan (expected (endpoint_of a.state.now) sl a.challenge a.body.now st)) in
+    settle (d a.stage) (refused (endpoint_of a.state.now) a.at UnknownTag) (ap d c.in-Free.is) a.out.now c.refuse.ensures (sym (written_none a.out.now))
 
 pub returns-in-AwaitsName : goal.returns-in-AwaitsName
 unfolding expected
 returns-in-AwaitsName c =
     let a = c.args in
     let k = a.cookie.now in
-    let sl = slot_at ((endpoint_of a.state.now)) a.at in
-    let d : Stage → Done = λ st. concluded k k ((endpoint_of a.state.now)) a.at (stage_plan (expected ((endpoint_of a.state.now)) sl a.challenge a.body.now st)) in
-    settle (d a.stage) (concluded k k ((endpoint_of a.state.now)) a.at (stage_plan (expect_name ((endpoint_of a.state.now)) a.challenge a.body.now))) (ap d c.in-AwaitsName.is) a.out.now (c.recv_name.ensures.0 k) (c.recv_name.ensures.1 k)
+    let sl = slot_at (endpoint_of a.state.now) a.at in
+    let d : Stage → Done = λ st. concluded k k (endpoint_of a.state.now) a.at (stage_plan (expected (endpoint_of a.state.now) sl a.challenge a.body.now st)) in
+    settle (d a.stage) (concluded k k (endpoint_of a.state.now) a.at (stage_plan (expect_name (endpoint_of a.state.now) a.challenge a.body.now))) (ap d c.in-AwaitsName.is) a.out.now (c.recv_name.ensures.0 k) (c.recv_name.ensures.1 k)
 
 pub returns-in-AwaitsAlive : goal.returns-in-AwaitsAlive
 unfolding expected
 returns-in-AwaitsAlive c =
     let a = c.args in
     let k = a.cookie.now in
-    let sl = slot_at ((endpoint_of a.state.now)) a.at in
-    let d : Stage → Done = λ st. concluded k k ((endpoint_of a.state.now)) a.at (stage_plan (expected ((endpoint_of a.state.now)) sl a.challenge a.body.now st)) in
-    settle (d a.stage) (concluded k k ((endpoint_of a.state.now)) a.at (stage_plan (expect_alive ((endpoint_of a.state.now)) sl a.challenge a.body.now))) (ap d c.in-AwaitsAlive.is) a.out.now (c.recv_alive.ensures.0 k) (c.recv_alive.ensures.1 k)
+    let sl = slot_at (endpoint_of a.state.now) a.at in
+    let d : Stage → Done = λ st. concluded k k (endpoint_of a.state.now) a.at (stage_plan (expected (endpoint_of a.state.now) sl a.challenge a.body.now st)) in
+    settle (d a.stage) (concluded k k (endpoint_of a.state.now) a.at (stage_plan (expect_alive (endpoint_of a.state.now) sl a.challenge a.body.now))) (ap d c.in-AwaitsAlive.is) a.out.now (c.recv_alive.ensures.0 k) (c.recv_alive.ensures.1 k)
 
 pub returns-in-AwaitsReply : goal.returns-in-AwaitsReply
 unfolding expected
 returns-in-AwaitsReply c =
     let a = c.args in
     let k = a.cookie.now in
-    let sl = slot_at ((endpoint_of a.state.now)) a.at in
-    let d : Stage → Done = λ st. concluded k k ((endpoint_of a.state.now)) a.at (stage_plan (expected ((endpoint_of a.state.now)) sl a.challenge a.body.now st)) in
-    settle (d a.stage) (concluded k k ((endpoint_of a.state.now)) a.at (stage_plan (expect_reply ((endpoint_of a.state.now)) sl a.body.now))) (ap d c.in-AwaitsReply.is) a.out.now c.recv_challenge_reply.ensures.0 c.recv_challenge_reply.ensures.1
+    let sl = slot_at (endpoint_of a.state.now) a.at in
+    let d : Stage → Done = λ st. concluded k k (endpoint_of a.state.now) a.at (stage_plan (expected (endpoint_of a.state.now) sl a.challenge a.body.now st)) in
+    settle (d a.stage) (concluded k k (endpoint_of a.state.now) a.at (stage_plan (expect_reply (endpoint_of a.state.now) sl a.body.now))) (ap d c.in-AwaitsReply.is) a.out.now c.recv_challenge_reply.ensures.0 c.recv_challenge_reply.ensures.1
 
 pub returns-in-AwaitsStatus : goal.returns-in-AwaitsStatus
 unfolding expected
 returns-in-AwaitsStatus c =
     let a = c.args in
     let k = a.cookie.now in
-    let sl = slot_at ((endpoint_of a.state.now)) a.at in
-    let d : Stage → Done = λ st. concluded k k ((endpoint_of a.state.now)) a.at (stage_plan (expected ((endpoint_of a.state.now)) sl a.challenge a.body.now st)) in
-    settle (d a.stage) (concluded k k ((endpoint_of a.state.now)) a.at (stage_plan (expect_status sl a.body.now))) (ap d c.in-AwaitsStatus.is) a.out.now (c.recv_status.ensures.0 k) (c.recv_status.ensures.1 k)
+    let sl = slot_at (endpoint_of a.state.now) a.at in
+    let d : Stage → Done = λ st. concluded k k (endpoint_of a.state.now) a.at (stage_plan (expected (endpoint_of a.state.now) sl a.challenge a.body.now st)) in
+    settle (d a.stage) (concluded k k (endpoint_of a.state.now) a.at (stage_plan (expect_status sl a.body.now))) (ap d c.in-AwaitsStatus.is) a.out.now (c.recv_status.ensures.0 k) (c.recv_status.ensures.1 k)
 
 pub returns-in-AwaitsChallenge : goal.returns-in-AwaitsChallenge
 unfolding expected
 returns-in-AwaitsChallenge c =
     let a = c.args in
     let k = a.cookie.now in
-    let sl = slot_at ((endpoint_of a.state.now)) a.at in
-    let d : Stage → Done = λ st. concluded k k ((endpoint_of a.state.now)) a.at (stage_plan (expected ((endpoint_of a.state.now)) sl a.challenge a.body.now st)) in
-    settle (d a.stage) (concluded k k ((endpoint_of a.state.now)) a.at (stage_plan (expect_challenge sl a.challenge a.body.now))) (ap d c.in-AwaitsChallenge.is) a.out.now c.recv_challenge.ensures.0 c.recv_challenge.ensures.1
+    let sl = slot_at (endpoint_of a.state.now) a.at in
+    let d : Stage → Done = λ st. concluded k k (endpoint_of a.state.now) a.at (stage_plan (expected (endpoint_of a.state.now) sl a.challenge a.body.now st)) in
+    settle (d a.stage) (concluded k k (endpoint_of a.state.now) a.at (stage_plan (expect_challenge sl a.challenge a.body.now))) (ap d c.in-AwaitsChallenge.is) a.out.now c.recv_challenge.ensures.0 c.recv_challenge.ensures.1
 
 pub returns-in-AwaitsAck : goal.returns-in-AwaitsAck
 unfolding expected
 returns-in-AwaitsAck c =
     let a = c.args in
     let k = a.cookie.now in
-    let sl = slot_at ((endpoint_of a.state.now)) a.at in
-    let d : Stage → Done = λ st. concluded k k ((endpoint_of a.state.now)) a.at (stage_plan (expected ((endpoint_of a.state.now)) sl a.challenge a.body.now st)) in
-    settle (d a.stage) (concluded k k ((endpoint_of a.state.now)) a.at (stage_plan (expect_ack sl a.body.now))) (ap d c.in-AwaitsAck.is) a.out.now c.recv_challenge_ack.ensures
-    (sym (ap (λ (bs : List ℕ). written bs a.out.now) (ack_silent k k ((endpoint_of a.state.now)) a.at sl a.body.now) ∙ written_none a.out.now))
+    let sl = slot_at (endpoint_of a.state.now) a.at in
+    let d : Stage → Done = λ st. concluded k k (endpoint_of a.state.now) a.at (stage_plan (expected (endpoint_of a.state.now) sl a.challenge a.body.now st)) in
+    settle (d a.stage) (concluded k k (endpoint_of a.state.now) a.at (stage_plan (expect_ack sl a.body.now))) (ap d c.in-AwaitsAck.is) a.out.now c.recv_challenge_ack.ensures
+    (sym (ap (λ (bs : List ℕ). written bs a.out.now) (ack_silent k k (endpoint_of a.state.now) a.at sl a.body.now) ∙ written_none a.out.now))
 
 pub returns-in-Connected : goal.returns-in-Connected
 unfolding expected settled finished
 returns-in-Connected c =
     let a = c.args in
     let k = a.cookie.now in
-    let sl = slot_at ((endpoint_of a.state.now)) a.at in
-    let d : Stage → Done = λ st. concluded k k ((endpoint_of a.state.now)) a.at (stage_plan (expected ((endpoint_of a.state.now)) sl a.challenge a.body.now st)) in
-    settle (d a.stage) (refused ((endpoint_of a.state.now)) a.at UnknownTag) (ap d c.in-Connected.is) a.out.now c.refuse-in-Connected.ensures (sym (written_none a.out.now))
+    let sl = slot_at (endpoint_of a.state.now) a.at in
+    let d : Stage → Done = λ st. concluded k k (endpoint_of a.state.now) a.at (stage_plan (expected (endpoint_of a.state.now) sl a.challenge a.body.now st)) in
+    settle (d a.stage) (refused (endpoint_of a.state.now) a.at UnknownTag) (ap d c.in-Connected.is) a.out.now c.refuse-in-Connected.ensures (sym (written_none a.out.now))

@@ -1,24 +1,26 @@
 use Rattle.handshake_rules.specs.Accepting.{contest, is_greater}
 use Rattle.wire.proofs.RunLaws.{order_flips}
-use Rattle.wire.specs.Run.{flipped}
-use Rattle.wire.specs.declared.run.Order.{Order}
-use mathlib.Core.Path.{sym, ap, ◌∙◌}
+use Rattle.wire.specs.Run.{order, flipped}
+use Rattle.std.specs.declared.cmp.Ordering.{Ordering}
+use Rattle.std.specs.declared.cmp.Ordering.TheVariants.{Less, Equal, Greater}
+use Rattle.std.specs.Ordering.{is_lt}
+use mathlib.Core.Bool.{Bool}
+use mathlib.Core.Path.{◌≡◌, refl, sym, ap, ◌∙◌}
 use Rattle.handshake_accepting.proofs.accepting.contest.Goals as goal
 
-pub returns-in-Less : goal.returns-in-Less
-returns-in-Less c =
-    let a = c.args in
-    let e = order_flips a.own.now a.name.now ∙ ap flipped (sym c.compare.ensures ∙ c.in-Less.is) in
-    sym (ap (λ (o : Order). contest (is_greater o) a.mine) e)
+greater_flipped : (o : Ordering) → is_greater (flipped o) ≡ is_lt o
+greater_flipped Less = refl
+greater_flipped Equal = refl
+greater_flipped Greater = refl
 
-pub returns-in-Equal : goal.returns-in-Equal
-returns-in-Equal c =
+pub returns-then-is_lt : goal.returns-then-is_lt
+returns-then-is_lt c =
     let a = c.args in
-    let e = order_flips a.own.now a.name.now ∙ ap flipped (sym c.compare.ensures ∙ c.in-Equal.is) in
-    sym (ap (λ (o : Order). contest (is_greater o) a.mine) e)
+    let e = ap is_greater (order_flips a.own.now a.name.now) ∙ greater_flipped (order a.own.now a.name.now) ∙ ap is_lt (sym c.compare.ensures) ∙ sym c.is_lt.ensures ∙ c.if-is_lt.true in
+    sym (ap (λ (b : Bool). contest b a.mine) e)
 
-pub returns-in-Greater : goal.returns-in-Greater
-returns-in-Greater c =
+pub returns : goal.returns
+returns c =
     let a = c.args in
-    let e = order_flips a.own.now a.name.now ∙ ap flipped (sym c.compare.ensures ∙ c.in-Greater.is) in
-    sym (ap (λ (o : Order). contest (is_greater o) a.mine) e)
+    let e = ap is_greater (order_flips a.own.now a.name.now) ∙ greater_flipped (order a.own.now a.name.now) ∙ ap is_lt (sym c.compare.ensures) ∙ sym c.is_lt.ensures ∙ c.if-is_lt.false in
+    sym (ap (λ (b : Bool). contest b a.mine) e)

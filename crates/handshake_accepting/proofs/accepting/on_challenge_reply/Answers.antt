@@ -22,32 +22,32 @@ use Rattle.handshake_state.specs.Bytes.{endpoint_of}
 use Rattle.handshake_accepting.proofs.accepting.on_challenge_reply.Goals as goal
 
 pub is_digest-requires : goal.is_digest-requires
-is_digest-requires c = (ap length c.get_part.ensures ∙ part_length 5 16 c.args.body.now (omega (arith, c.requires.1)), c.requires.2)
+is_digest-requires c = (ap length c.get_part.ensures ∙ part_length 5 16 c.args.body.now (omega (arith, c.requires.0)), c.args.cookie.short)
 
 pub returns-then-not-is_digest : goal.returns-then-not-is_digest
 returns-then-not-is_digest c =
     let a = c.args in
-    let k = a.cookie.now in
+    let k = a.cookie.bytes.now in
     let b = a.body.now in
-    let sl = slot_at ((endpoint_of a.state.now)) a.at in
-    let x : Act = record { slot = moved sl Connected; other = older ((endpoint_of a.state.now)) sl; writes = ack (reply_challenge b) } in
+    let sl = slot_at (endpoint_of a.state.now) a.at in
+    let x : Act = record { slot = moved sl Connected; other = older (endpoint_of a.state.now) sl; writes = ack (reply_challenge b) } in
     let v = c.is_digest.ensures ∙ ap₂ (λ (d : List ℕ) (s : Slot). same_bytes d (digest_of s.challenge k)) c.get_part.ensures c.slot-s.ensures in
-    settle (concluded k k ((endpoint_of a.state.now)) a.at (expect_reply ((endpoint_of a.state.now)) sl b).rule) (refused ((endpoint_of a.state.now)) a.at WrongDigest)
-    (proven_wrong k k ((endpoint_of a.state.now)) a.at sl.challenge (reply_digest b) x (said_no v c.if-not-is_digest.true-raw)) a.out.now c.refuse.ensures (sym (written_none a.out.now))
+    settle (concluded k k (endpoint_of a.state.now) a.at (expect_reply (endpoint_of a.state.now) sl b).rule) (refused (endpoint_of a.state.now) a.at WrongDigest)
+    (proven_wrong k k (endpoint_of a.state.now) a.at sl.challenge (reply_digest b) x (said_no v c.if-not-is_digest.true-raw)) a.out.now c.refuse.ensures (sym (written_none a.out.now))
 
 pub returns : goal.returns
 unfolding render
 returns c =
     let a = c.args in
-    let k = a.cookie.now in
+    let k = a.cookie.bytes.now in
     let b = a.body.now in
-    let sl = slot_at ((endpoint_of a.state.now)) a.at in
-    let x : Act = record { slot = moved sl Connected; other = older ((endpoint_of a.state.now)) sl; writes = ack (reply_challenge b) } in
+    let sl = slot_at (endpoint_of a.state.now) a.at in
+    let x : Act = record { slot = moved sl Connected; other = older (endpoint_of a.state.now) sl; writes = ack (reply_challenge b) } in
     let v = c.is_digest.ensures ∙ ap₂ (λ (d : List ℕ) (s : Slot). same_bytes d (digest_of s.challenge k)) c.get_part.ensures c.slot-s.ensures in
-    let m : c.digest-d.result ≡ digest_of (reply_challenge b) k = c.digest-d.ensures ∙ ap (λ (n : ℕ). digest_of n k) c.get32.ensures in
-    settle (concluded k k ((endpoint_of a.state.now)) a.at (expect_reply ((endpoint_of a.state.now)) sl b).rule) (answered ((endpoint_of a.state.now)) a.at (moved sl Connected) (older ((endpoint_of a.state.now)) sl) (ack_message (digest_of (reply_challenge b) k)))
-    (proven_right k k ((endpoint_of a.state.now)) a.at sl.challenge (reply_digest b) x (said_yes v c.if-not-is_digest.false-raw)) a.out.now
+    let m : c.digest-d.result ≡ digest_of (reply_challenge b) k = c.digest-d.ensures ∙ ap (λ (n : ℕ). digest_of n k) c.get.ensures in
+    settle (concluded k k (endpoint_of a.state.now) a.at (expect_reply (endpoint_of a.state.now) sl b).rule) (answered (endpoint_of a.state.now) a.at (moved sl Connected) (older (endpoint_of a.state.now) sl) (ack_message (digest_of (reply_challenge b) k)))
+    (proven_right k k (endpoint_of a.state.now) a.at sl.challenge (reply_digest b) x (said_yes v c.if-not-is_digest.false-raw)) a.out.now
     (c.connect.ensures
-    ∙ ap (answers (free_other ((endpoint_of a.state.now)) (older ((endpoint_of a.state.now)) sl)) a.at (moved sl Connected) (older ((endpoint_of a.state.now)) sl))
+    ∙ ap (answers (free_other (endpoint_of a.state.now) (older (endpoint_of a.state.now) sl)) a.at (moved sl Connected) (older (endpoint_of a.state.now) sl))
     (c.send_challenge_ack-count.ensures.value ∙ ap (λ (d : List ℕ). length (ack_message d)) m))
     (c.send_challenge_ack-count.ensures.out_after ∙ ap (λ (d : List ℕ). written (ack_message d) a.out.now) m)

@@ -1,7 +1,7 @@
 use Rattle.handshake_rules.specs.Plans.{answers, settled, finished, render}
 use Rattle.handshake_rules.specs.Cookie.{digest_of}
 use Rattle.handshake_rules.specs.Messages.{challenge_challenge, reply_message}
-use Rattle.handshake_rules.specs.declared.endpoint.Freed.TheVariants.{Nothing}
+use Rattle.std.specs.Prelude.{None}
 use Rattle.handshake_rules.specs.declared.endpoint.Stage.TheVariants.{AwaitsAck}
 use Rattle.wire.specs.Output.{written}
 use lib.ListN.{length}
@@ -15,12 +15,12 @@ pub returns : goal.returns
 unfolding settled finished render
 returns c =
     let a = c.args in
-    let k = a.cookie.now in
-    let m : c.digest-d.result ≡ digest_of (challenge_challenge a.body.now) k = c.digest-d.ensures ∙ ap (λ (n : ℕ). digest_of n k) c.get32.ensures in
+    let k = a.cookie.bytes.now in
+    let m : c.digest-d.result ≡ digest_of (challenge_challenge a.body.now) k = c.digest-d.ensures ∙ ap (λ (n : ℕ). digest_of n k) c.get.ensures in
     let n = c.send_challenge_reply-count.ensures.value ∙ ap (λ (d : List ℕ). length (reply_message a.challenge d)) m in (
       c.answer.ensures
           ∙ λ i.
-          answers ((endpoint_of a.state.now)) a.at (record { stage = AwaitsAck; name = a.s.name; flags = c.get64-flags.ensures i; creation = c.get32-creation.ensures i; challenge = a.challenge })
-          Nothing (n i),
+          answers (endpoint_of a.state.now) a.at (record { stage = AwaitsAck; name = a.s.name; flags = c.get-flags.ensures i; creation = c.get-creation.ensures i; challenge = a.challenge })
+          None (n i),
       c.send_challenge_reply-count.ensures.out_after ∙ ap (λ (d : List ℕ). written (reply_message a.challenge d) a.out.now) m,
     )

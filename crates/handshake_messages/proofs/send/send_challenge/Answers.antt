@@ -7,8 +7,9 @@ use Rattle.handshake_messages.proofs.send.send_challenge.Goals as goal
 pub returns : goal.returns
 returns c =
     let a = c.args in
-    let n = a.name.now in record {
-      value = omega (arith, challenge_size a.flags a.challenge a.creation n);
-      out_after = challenge_written a.flags a.challenge a.creation n a.out.now a.at (length n) (omega (arith, c.requires.0, c.requires.2)) refl
+    let d = a.node in
+    let n = d.name.now in record {
+      value = omega (arith, challenge_size d.flags a.challenge d.creation n);
+      out_after = challenge_written d.flags a.challenge d.creation n a.out.now a.at (length n) (omega (arith, c.requires.0, c.requires.1)) refl
           c.challenge_header-h.ensures c.put_bytes.ensures c.put_bytes-2.ensures;
     }

@@ -1,22 +1,18 @@
 -- `compress` meets its contract: four rounds are 64 operations, and the sums are the words'.
 -- Assumes nothing.
-use Rattle.std.proofs.Common.{refl, ap, ◌∙◌, rules}
-use Rattle.md5_digest.specs.Md5.{run, add, compress}
+use Rattle.std.proofs.Common.{◌≡◌, refl, ap, ◌∙◌, rules}
+use Rattle.md5_digest.specs.Md5.{F, G, H, I, operations, run, add, compress}
 use Rattle.md5_digest.proofs.Words.{added}
 use Rattle.md5_digest.proofs.rounds.compress.Goals as goal
 
-pub round1-r-requires : goal.round1-r-requires
-unfolding run
-round1-r-requires c = record { whole = search rules; is = refl }
-
 pub returns : goal.returns
-unfolding compress
+unfolding compress run
 returns c =
     let s = c.args.s in
-    let r = c.round4-r in
-    added s r.result
-    c.wrapping_add_u32-a.ensures.value
-    c.wrapping_add_u32-b.ensures.value
-    c.wrapping_add_u32-c.ensures.value
-    c.wrapping_add_u32-d.ensures.value
-    ∙ ap (add s) r.ensures.is
+    let r = c.round-r-4.result in
+    let e1 = c.round-r.ensures F (search rules) in
+    let e2 = c.round-r-2.ensures G (search rules) in
+    let e3 = c.round-r-3.ensures H (search rules) in
+    let e4 = c.round-r-4.ensures I (search rules) in
+    let whole : r ≡ run c.args.x.now operations s = rw (e4, e3, e2, e1) refl in
+    added s r refl refl refl refl ∙ ap (add s) whole

@@ -1,19 +1,13 @@
 -- `next` meets its contract: by what is passed from i on.
 use native.Mathlib.Omega.{arith}
-use Rattle.names.proofs.NodeLaws.{past_plain, reach_on, reach_place}
+use Rattle.names.proofs.NodeLaws.{past_plain, reach_on}
 use Rattle.names.proofs.node.next.Goals as goal
-
-pub returns-then-s-i-gt127 : goal.returns-then-s-i-gt127
-returns-then-s-i-gt127 c = c.pass_other.ensures
 
 pub returns-then-j-s : goal.returns-then-j-s
 returns-then-j-s c =
     let p = c.pass_plain-j in
     let q = p.ensures in
-    reach_place c.args.s.now c.args.i p.result (omega (arith, c.requires)) q.inside (past_plain c.args.s.now c.args.i p.result q.onward q.inside q.passed)
-
-pub walk-requires : goal.walk-requires
-walk-requires c = omega (arith, c.pass_plain-j.ensures.inside)
+    (omega (arith, c.requires), q.inside, past_plain c.args.s.now c.args.i p.result q.onward q.inside q.passed)
 
 pub returns : goal.returns
 returns c =

@@ -1,23 +1,15 @@
--- `is_plain` meets its contract: no other byte so far, and the rest is plain.
-use Prim.Native.Nat.{◌+◌}
-use mathlib.Core.Path.{sym, ap, ◌∙◌}
-use mathlib.Core.Bool.{Bool, ◌&&◌}
-use native.Mathlib.Omega.{arith}
-use lib.ListN.{drop}
-use borrow.Author.Rules.{rules}
-use Rattle.names.specs.Node.{plain}
-use Rattle.names.proofs.PlainLaws.{plain_step, plain_done}
+-- `is_plain` meets its contract.
+use mathlib.Core.Bool.{true, ◌&&◌}
+use mathlib.Core.Path.{◌∙◌}
+use borrow.Author.Tests.{tests}
+use Rattle.std.proofs.Common.{rules}
+use Rattle.std.proofs.lemmas.Iterator.{YieldsList-from_slice}
+use Rattle.std.proofs.lemmas.Iterator.Consumers.{fold_from_yields_List}
+use Rattle.names.specs.Node.{plain_byte}
+use Rattle.names.proofs.PlainLaws.{plain_fold}
 use Rattle.names.proofs.plain.is_plain.Goals as goal
-
-pub loop-i-preserved : goal.loop-i-preserved
-loop-i-preserved c =
-    let s = c.args.s.now in
-    let l = c.loop-i in (
-      search rules,
-      ap (λ (t : Bool). l.ok && t && plain (drop (l.i + 1) s)) c.is_plain_byte-ok.ensures ∙ plain_step s l.i l.ok (omega arith) ∙ l.invariant.1,
-    )
 
 pub returns : goal.returns
 returns c =
-    let l = c.loop-i in
-    sym (plain_done c.args.s.now l.i l.ok (omega arith)) ∙ l.invariant.1
+    let s = c.args.s.now in
+    fold_from_yields_List _ (λ a b. a && plain_byte b) true c.fold.result c.fold.ensures.ran (YieldsList-from_slice s cc) (λ a x b q k. search (rules, tests)) ∙ plain_fold s true

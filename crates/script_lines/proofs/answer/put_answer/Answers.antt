@@ -13,51 +13,6 @@ use Rattle.script_lines.proofs.TextLaws.{hex_length}
 use Rattle.script_lines.proofs.AnswerLaws.{answer_split, answer_length}
 use Rattle.script_lines.proofs.answer.put_answer.Goals as goal
 
-pub put_bytes-requires : goal.put_bytes-requires
-put_bytes-requires c =
-    let a = c.args in
-    omega (arith, answer_length a.res a.reply.now, c.requires)
-
-pub put_decimal-d-requires : goal.put_decimal-d-requires
-put_decimal-d-requires c =
-    let a = c.args in
-    omega (arith, answer_length a.res a.reply.now, c.requires)
-
-pub overflow_add-a : goal.overflow_add-a
-overflow_add-a c =
-    let a = c.args in
-    omega (arith, answer_length a.res a.reply.now, c.requires, c.put_decimal-d.ensures.value)
-
-pub put_bytes-requires-2 : goal.put_bytes-requires-2
-put_bytes-requires-2 c =
-    let a = c.args in
-    omega (arith, answer_length a.res a.reply.now, c.requires, c.put_decimal-d.ensures.value)
-
-pub overflow_add-h : goal.overflow_add-h
-overflow_add-h c =
-    let a = c.args in
-    omega (arith, answer_length a.res a.reply.now, c.requires, c.put_decimal-d.ensures.value)
-
-pub put_hex-requires : goal.put_hex-requires
-put_hex-requires c =
-    let a = c.args in
-    omega (arith, answer_length a.res a.reply.now, c.requires, c.put_decimal-d.ensures.value)
-
-pub overflow_add-e : goal.overflow_add-e
-overflow_add-e c =
-    let a = c.args in
-    omega (arith, answer_length a.res a.reply.now, c.requires, c.put_decimal-d.ensures.value)
-
-pub put_bytes-requires-3 : goal.put_bytes-requires-3
-put_bytes-requires-3 c =
-    let a = c.args in
-    omega (arith, answer_length a.res a.reply.now, c.requires, c.put_decimal-d.ensures.value)
-
-pub overflow_add-result : goal.overflow_add-result
-overflow_add-result c =
-    let a = c.args in
-    omega (arith, answer_length a.res a.reply.now, c.requires, c.put_decimal-d.ensures.value)
-
 pub returns : goal.returns
 returns c =
     let a = c.args in

@@ -1,22 +1,17 @@
-use mathlib.Core.Path.{refl}
-use native.Mathlib.Omega.{arith}
-use Rattle.script_lines.proofs.LineLaws.{up_go, up_stop, up_end}
+use Prim.Native.Nat.{ℕ}
+use mathlib.Core.Path.{ap, ◌∙◌}
+use mathlib.Core.Bool.{cond}
+use lib.Dec.{eqb, ltb}
+use lib.ListN.{length}
+use borrow.Author.Tests.{tests}
+use Rattle.std.proofs.Common.{rules, Some, None}
+use Rattle.std.proofs.lemmas.Iterator.{YieldsList-from_slice}
+use Rattle.std.proofs.lemmas.Iterator.Search.{position_from_yields_List}
+use Rattle.script_lines.proofs.LineLaws.{up_std}
 use Rattle.script_lines.proofs.gather.line_end.Goals as goal
-
-pub loop-i-init : goal.loop-i-init
-loop-i-init c = refl
-
-pub returns-then-chunk-i-eq10 : goal.returns-then-chunk-i-eq10
-returns-then-chunk-i-eq10 c =
-    let l = c.loop-i in
-    omega (arith, up_stop c.args.chunk.now l.i (omega arith) c.if-chunk-i-eq10.true)
-
-pub loop-i-preserved : goal.loop-i-preserved
-loop-i-preserved c =
-    let l = c.loop-i in
-    omega (arith, up_go c.args.chunk.now l.i (omega arith) c.if-chunk-i-eq10.false)
 
 pub returns : goal.returns
 returns c =
-    let l = c.loop-i in
-    omega (arith, up_end c.args.chunk.now l.i (omega arith))
+    let p = c.args.part.now in
+    position_from_yields_List (λ x. eqb x 10) _ _ c.position.result c.position.ensures.ran (YieldsList-from_slice p cc) (λ x b q k. search (rules, tests))
+    ∙ ap (λ (n : ℕ). cond (ltb n (length p)) (Some n) None) (up_std p)

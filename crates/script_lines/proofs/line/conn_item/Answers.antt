@@ -1,22 +1,29 @@
-use mathlib.Core.Path.{sym, ◌∙◌}
+use mathlib.Core.Path.{sym, ap, ◌∙◌}
+use borrow.Author.Rules.{rules}
+use Rattle.std.specs.Option.{option_map}
+use Rattle.script_lines.specs.declared.line.Item.TheVariants.{Conn}
 use Rattle.script_lines.proofs.LineLaws.{conn_empty, conn_other, conn_leads, conn_digits}
 use Rattle.script_lines.proofs.line.conn_item.Goals as goal
 
-pub returns-then-text-lt1 : goal.returns-then-text-lt1
-returns-then-text-lt1 c = sym (conn_empty c.args.text.now c.if-text-lt1.true)
+pub returns-then-is_empty : goal.returns-then-is_empty
+returns-then-is_empty c = sym (conn_empty c.args.text.now (search rules))
 
 pub returns-then-not-all_digits : goal.returns-then-not-all_digits
-returns-then-not-all_digits c = sym (conn_other c.args.text.now c.if-text-lt1.false (sym c.all_digits.ensures ∙ c.if-not-all_digits.true))
+returns-then-not-all_digits c = sym (conn_other c.args.text.now (search rules) (sym c.all_digits.ensures ∙ c.if-not-all_digits.true))
 
 pub returns-then-leads_zero : goal.returns-then-leads_zero
 returns-then-leads_zero c =
     let d = sym c.all_digits.ensures ∙ c.if-not-all_digits.false in
-    sym (conn_leads c.args.text.now c.if-text-lt1.false d (sym c.leads_zero.ensures ∙ c.if-leads_zero.true))
+    sym (conn_leads c.args.text.now (search rules) d (sym c.leads_zero.ensures ∙ c.if-leads_zero.true))
 
-pub small_item-requires : goal.small_item-requires
-small_item-requires c = sym c.all_digits.ensures ∙ c.if-not-all_digits.false
+pub returns-in_err-small_number : goal.returns-in_err-small_number
+returns-in_err-small_number c =
+    let d = sym c.all_digits.ensures ∙ c.if-not-all_digits.false in
+    let e = conn_digits c.args.text.now (search rules) d (sym c.leads_zero.ensures ∙ c.if-leads_zero.false) c.small_number.result c.small_number.ensures in
+    c.from_residual.ensures ∙ sym (e ∙ ap (option_map Conn) c.in_err-small_number.was)
 
 pub returns : goal.returns
 returns c =
     let d = sym c.all_digits.ensures ∙ c.if-not-all_digits.false in
-    c.small_item.ensures ∙ sym (conn_digits c.args.text.now c.if-text-lt1.false d (sym c.leads_zero.ensures ∙ c.if-leads_zero.false))
+    let e = conn_digits c.args.text.now (search rules) d (sym c.leads_zero.ensures ∙ c.if-leads_zero.false) c.small_number.result c.small_number.ensures in
+    sym (e ∙ ap (option_map Conn) c.in_ok-small_number.was)

@@ -10,8 +10,8 @@ returns-then-is_hex c =
     let e : is_hex c.args.text.now ≡ true = sym c.is_hex.ensures ∙ c.if-is_hex.true in
     rw e
 
-pub returns : goal.returns
+pub returns-else-is_hex : goal.returns-else-is_hex
 unfolding hex_item
-returns c =
+returns-else-is_hex c =
     let e : is_hex c.args.text.now ≡ false = sym c.is_hex.ensures ∙ c.if-is_hex.false in
     rw e

@@ -6,6 +6,6 @@ pub returns-then-v-lt10 : goal.returns-then-v-lt10
 unfolding digit_char
 returns-then-v-lt10 c = simp (lt-ltb _ _ c.if-v-lt10.true)
 
-pub returns : goal.returns
+pub returns-else-v-lt10 : goal.returns-else-v-lt10
 unfolding digit_char
-returns c = simp (le-ltb _ _ c.if-v-lt10.false)
+returns-else-v-lt10 c = simp (le-ltb _ _ c.if-v-lt10.false)

@@ -1,18 +1,18 @@
-use Rattle.script_lines.proofs.TextLaws.{value_below, value_numeral, value_between, value_letter, value_above}
-use mathlib.Core.Path.{sym}
+use native.Mathlib.Omega.{arith}
+use Rattle.script_lines.proofs.TextLaws.{digit_numeral, digit_letter, digit_none}
 use Rattle.script_lines.proofs.text.digit_value.Goals as goal
 
-pub returns-then-c-lt48 : goal.returns-then-c-lt48
-returns-then-c-lt48 c = sym (value_below _ c.if-c-lt48.true)
+pub returns-in-48-to-57 : goal.returns-in-48-to-57
+returns-in-48-to-57 c = digit_numeral _ (omega arith) (omega arith)
 
-pub returns-then-c-le57 : goal.returns-then-c-le57
-returns-then-c-le57 c = sym (value_numeral _ c.if-c-lt48.false c.if-c-le57.true)
+pub returns-in-97-to-102 : goal.returns-in-97-to-102
+returns-in-97-to-102 c = digit_letter _ (omega arith) (omega arith)
 
-pub returns-then-c-lt97 : goal.returns-then-c-lt97
-returns-then-c-lt97 c = sym (value_between _ c.if-c-le57.false c.if-c-lt97.true)
+pub returns-in_default : goal.returns-in_default
+returns-in_default c = digit_none _ (λ h k. omega arith) (λ h k. omega arith)
 
-pub returns-then-c-le102 : goal.returns-then-c-le102
-returns-then-c-le102 c = sym (value_letter _ c.if-c-lt97.false c.if-c-le102.true)
+pub returns-in_default-2 : goal.returns-in_default-2
+returns-in_default-2 c = digit_none _ (λ h k. omega arith) (λ h k. omega arith)
 
-pub returns : goal.returns
-returns c = sym (value_above _ c.if-c-le102.false)
+pub returns-in_default-3 : goal.returns-in_default-3
+returns-in_default-3 c = digit_none _ (λ h k. omega arith) (λ h k. omega arith)

@@ -1,11 +1,13 @@
 use borrow.Author.Tests.{le-leb, lt-leb}
+use lib.ListN.{length}
+use native.Mathlib.Omega.{arith}
 use Rattle.script_lines.specs.Text.{leads_zero}
 use Rattle.script_lines.proofs.text.leads_zero.Goals as goal
 
-pub returns-then-text-lt2 : goal.returns-then-text-lt2
+pub returns-then-text-gt1 : goal.returns-then-text-gt1
 unfolding leads_zero
-returns-then-text-lt2 c = simp (lt-leb _ _ c.if-text-lt2.true)
+returns-then-text-gt1 c = simp (le-leb 2 _ c.if-text-gt1.true)
 
-pub returns : goal.returns
+pub returns-else-text-gt1 : goal.returns-else-text-gt1
 unfolding leads_zero
-returns c = simp (le-leb _ _ c.if-text-lt2.false)
+returns-else-text-gt1 c = simp (lt-leb 2 (length c.args.text.now) (omega arith))

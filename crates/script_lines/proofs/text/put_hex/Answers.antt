@@ -1,4 +1,4 @@
--- `script_lines::text::put_hex` meets its contract: the first i bytes are written, two digits each. Assumes nothing.
+-- The first i bytes are written, two digits each.
 use Prim.Native.Nat.{ℕ, ◌+◌, ◌*◌, ◌/◌, ◌%◌}
 use mathlib.Core.Path.{◌≡◌, refl, sym, ap, ap₂, ◌∙◌}
 use mathlib.Core.List.{List, [], ◌∷◌}
@@ -14,10 +14,7 @@ use Rattle.script_lines.proofs.text.put_hex.Goals as goal
 
 pub loop-i-init : goal.loop-i-init
 unfolding hex_of
-loop-i-init c = (search rules, refl, sym (overwrite_none c.args.out.now c.args.at))
-
-pub digit_char-requires : goal.digit_char-requires
-digit_char-requires c = omega (arith, c.type_inv.src c.loop-i.i)
+loop-i-init c = (refl, sym (overwrite_none c.args.out.now c.args.at))
 
 pub loop-i-preserved : goal.loop-i-preserved
 loop-i-preserved c =
@@ -28,9 +25,8 @@ loop-i-preserved c =
     let e = c.digit_char-in-loop-i in
     let pair : ◌≡◌ {A = List ℕ} (d.result ∷ e.result ∷ []) (digit_char (b / 16) ∷ digit_char (b % 16) ∷ []) = λ j. d.ensures j ∷ e.ensures j ∷ [] in (
       search rules,
-      search rules,
       c.put_bytes.ensures
-          ∙ ap₂ (λ (x y : List ℕ). overwrite x (a.at + 2 * l.i) y) l.invariant.2 pair
+          ∙ ap₂ (λ (x y : List ℕ). overwrite x (a.at + 2 * l.i) y) l.invariant.1 pair
           ∙ hex_next a.out.now a.src.now a.at l.i b (omega arith) (omega arith) refl,
     )
 
@@ -38,4 +34,4 @@ pub returns : goal.returns
 returns c =
     let l = c.loop-i in
     let a = c.args in
-    l.invariant.2 ∙ ap (λ (x : List ℕ). overwrite a.out.now a.at (hex_of x)) (take_all l.i a.src.now (omega arith))
+    l.invariant.1 ∙ ap (λ (x : List ℕ). overwrite a.out.now a.at (hex_of x)) (take_all l.i a.src.now (omega arith))

@@ -1,4 +1,3 @@
-use Prim.Native.Nat.{◌≤◌, ◌-◌}
 use mathlib.Core.Path.{◌≡◌}
 use lib.ListN.{length, take}
 use Rattle.wire.specs.Output.{overwrite}
@@ -6,7 +5,4 @@ use Rattle.script_lines.specs.Text.{hex_of}
 use Rattle.script_lines.proofs.text.put_hex.Given as goal
 
 abbrev pub invariant-loop-i : goal.invariant-loop-i
-invariant-loop-i l = (l.i ≤ length l.src) × (length l.out ≡ length l.initial.out) × (l.out ≡ overwrite l.initial.out l.at (hex_of (take l.i l.src)))
-
-abbrev pub decreases-loop-i : goal.decreases-loop-i
-decreases-loop-i l = length l.src - l.i
+invariant-loop-i l = (length l.out ≡ length l.initial.out) × (l.out ≡ overwrite l.initial.out l.at (hex_of (take l.i l.src)))

@@ -1,7 +1,0 @@
-use mathlib.Core.Path.{◌∙◌, ap}
-use Rattle.handshake_rules.specs.State.{Told}
-use Rattle.birkenschuh.specs.Endpoint.{arrived_in, told_of}
-use Rattle.birkenschuh.proofs.endpoint.bks_endpoint_arrive.Goals as goal
-
-pub returns : goal.returns
-returns c = record { told = ap arrived_in (c.numbers_of-n.ensures ∙ ap (λ (t : Told). told_of t.answer) c.arrive-answer.ensures); endpoint = ap (λ (t : Told). t.endpoint) c.arrive-answer.ensures }

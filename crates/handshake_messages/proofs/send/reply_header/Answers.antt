@@ -1,6 +1,0 @@
-use Rattle.wire.specs.Output.{overwrite}
-use Rattle.handshake_messages.proofs.send.reply_header.Goals as goal
-
-pub returns : goal.returns
-unfolding overwrite
-returns c = rw (c.put32.ensures, c.put8.ensures, c.put16.ensures)

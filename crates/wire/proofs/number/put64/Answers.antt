@@ -1,8 +1,0 @@
-use mathlib.Core.Path.{◌∙◌, ap}
-use Rattle.wire.specs.Output.{overwrite}
-use Rattle.wire.proofs.number.put64.Goals as goal
-
-pub returns : goal.returns
-returns c =
-    let a = c.args in
-    c.put_bytes.ensures ∙ ap (overwrite a.out.now a.at) c.be64-b.ensures
