@@ -182,7 +182,7 @@ bks_port2_reply bks_read_port2(const uint8_t *reply, size_t len);
 /*
  * 5 where there is no reading: under 4 bytes, an own port above 65535, or text that is not at most 64 lines. 20 where there is more than
  * one, since a name may hold newlines: then ask for a name by PORT_PLEASE2. A reply cut behind a line looks like a whole one: lend it when
- * the mapper has closed. Needs 55 KB of stack.
+ * the mapper has closed. Needs 38 KB of stack.
  */
 bks_names_reply bks_read_names(const uint8_t *reply, size_t len);
 

@@ -54,7 +54,7 @@ impl fmt::Debug for NamesReply<'_> {
 }
 
 /// Reads the list of all names. A reply that was cut behind a line looks like a whole one: it is to be
-/// read when the mapper has closed the connection. The call needs some 55 KB of stack.
+/// read when the mapper has closed the connection. The call needs some 38 KB of stack.
 ///
 /// Refused: [`Refusal::BadLength`] (no own port up to 65,535 with at most 64 lines behind it),
 /// [`Refusal::Ambiguous`] (there is more than one reading). The latter is to be expected of most
