@@ -1,4 +1,5 @@
 -- Every slot that an answer tells is below 32. Assumes nothing.
+use borrow.Author.Tests.{not-false}
 use Prim.Native.Nat.{ℕ}
 use mathlib.Core.Path.{◌≡◌, refl, ap}
 use mathlib.Core.Bool.{Bool, true, false, cond}
@@ -24,7 +25,7 @@ use Rattle.handshake_rules.specs.Plans.{Done, stop, go, Plan, sure, proven, does
 use Rattle.handshake_rules.specs.Accepting.{is_greater, contest, greeting, on_name, on_alive}
 use Rattle.handshake_rules.specs.Connecting.{reaction, on_status}
 use Rattle.handshake_rules.specs.Calls.{kept, silent, begun, arrived, start_tests, start_of, arrive_tests, arrive_of, close_tests, close_of, expected, awaited, message_tests, plan, message_of}
-use Rattle.handshake_rules.proofs.CheckLaws.{not_not, unless_elim}
+use Rattle.handshake_rules.proofs.CheckLaws.{unless_elim}
 use Rattle.birkenschuh.specs.Endpoint.{slot_number}
 use Rattle.birkenschuh.specs.Claims.{CrossesWhole, Promises}
 
@@ -109,11 +110,11 @@ promises =
       started =
           λ g n size.
           unless_elim (λ (d : Done). CrossesWhole d.told.answer) (λ (r : Refusal). silent (kept g r)) (begun g n) (start_tests g n size)
-          (λ r. (refl, refl)) (λ h. (below (lowest_free g) (not_not (is_slot (lowest_free g)) h.1.1.1.0), refl));
+          (λ r. (refl, refl)) (λ h. (below (lowest_free g) (not-false (is_slot (lowest_free g)) h.1.1.1.0), refl));
       arrived =
           λ g.
           unless_elim (λ (t : Told). CrossesWhole t.answer) (kept g) (arrived g) (arrive_tests g) (λ r. (refl, refl))
-          (λ h. (below (lowest_free g) (not_not (is_slot (lowest_free g)) h.0), refl));
+          (λ h. (below (lowest_free g) (not-false (is_slot (lowest_free g)) h.0), refl));
       closed = λ g s. unless_elim (λ (t : Told). CrossesWhole t.answer) (kept g) _ (close_tests g s) (λ r. (refl, refl)) (λ h. (refl, refl));
       answered =
           λ k g s f c size.

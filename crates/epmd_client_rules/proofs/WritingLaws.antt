@@ -7,7 +7,8 @@ use native.Mathlib.Omega.{arith}
 use borrow.Author.Tests.{leb-true}
 use lib.ListN.{length, take, length-append}
 use lib.Dec.{leb}
-use Rattle.std.specs.Prelude.{Result, Ok, Err}
+use Rattle.std.specs.Prelude.{Result, Ok, Err, IsErrAnd}
+use Rattle.std.proofs.lemmas.Result.{err_from_is_err_and}
 use Rattle.wire.specs.Number.{be}
 use Rattle.wire.specs.Frame.{framed}
 use Rattle.wire.specs.Layout.{counted, int, run, encode_field, encode}
@@ -49,11 +50,15 @@ module _ (rules : List (Check Refusal)) (frame : List ℕ) (size given : ℕ) (e
       ∙ ap (doing frame) (sym d) in
       rw w (record { answer = own frame a; output = o })
 
-  pub writes_none : (why : Refusal) → Err why ≡ decided rules size given → (out : List ℕ) → Writes (writing rules frame given) (Err why) out out
-  writes_none why d out = writes (Err why) d out out (sym (written_none out))
+  -- as after `?`, where the decision's refusal is returned
+  pub writes_none : {a : Result ℕ Refusal} → a ≡ decided rules size given → {why : Refusal} → a ≡ Err why → (r : Result ℕ Refusal) → IsErrAnd r (λ y. y ≡ why)
+      → (out : List ℕ) → Writes (writing rules frame given) r out out
+  writes_none d {why} w r h out =
+      let p = err_from_is_err_and r h in rw (p.1, p.2) (writes (Err why) (sym w ∙ d) out out (sym (written_none out)))
 
-  pub writes_frame : (n : ℕ) → Ok n ≡ decided rules size given → (out out' : List ℕ) → out' ≡ written frame out → Writes (writing rules frame given) (Ok n) out out'
-  writes_frame n d out out' o = writes (Ok n) d out out' o
+  pub writes_frame : {a : Result ℕ Refusal} → a ≡ decided rules size given → {n : ℕ} → a ≡ Ok n → (out out' : List ℕ) → out' ≡ written frame out
+      → Writes (writing rules frame given) (Ok n) out out'
+  writes_frame d {n} w out out' o = writes (Ok n) (sym w ∙ d) out out' o
 
 -- where a frame is written, every test held
 abbrev AllHold : List (Check Refusal) → Type 0

@@ -1,5 +1,6 @@
 -- Laws of the flag test (specs/FlagClaims). Assumes nothing.
 use Rattle.std.specs.Prelude.{Ok, Err}
+use Rattle.std.proofs.Math.Bool.{or-true}
 use Prim.Native.Nat.{ℕ, zero, suc, ◌+◌, ◌<◌, ◌≤◌}
 use mathlib.Core.Path.{◌≡◌, refl, sym, ◌∙◌, ap, ap₂}
 use mathlib.Core.Bool.{Bool, true, false, true≢false, cond, ◌&&◌, ◌||◌, not}
@@ -72,10 +73,6 @@ abbrev Tells : List ℕ → ℕ → List ℕ → Type 0
 Tells is f [] = (i : ℕ) → among i is ≡ true → bit i f ≡ true
 Tells is f (i ∷ rest) = First is f i
 
-or_true : (x : Bool) → (x || true) ≡ true
-or_true true = refl
-or_true false = refl
-
 tells : (is : List ℕ) (lo f : ℕ) → Rising lo is → Tells is f (missing is f)
 tells [] lo f r = λ i e. absurd (true≢false (sym e))
 tells (j ∷ js) lo f r = by (bit j f) refl (missing js f) (tells js (suc j) f r.1)
@@ -88,7 +85,7 @@ tells (j ∷ js) lo f r = by (bit j f) refl (missing js f) (tells js (suc j) f r
     by : (b : Bool) → bit j f ≡ b → (m : List ℕ) → Tells js f m → Tells (j ∷ js) f (cond b m (j ∷ m))
     by true q [] h = λ k. either k (eqb k j) refl q (h k)
     by true q (i ∷ rest) h =
-        record { of = rw h.of (or_true (eqb i j)); clear = h.clear; below = λ k l. either k (eqb k j) refl q (h.below k l) }
+        record { of = rw h.of (or-true (eqb i j)); clear = h.clear; below = λ k l. either k (eqb k j) refl q (h.below k l) }
     by false q m h =
         record {
           of = rw (eq-eqb j j refl);

@@ -1,5 +1,6 @@
 -- No call changes the endpoint's own name, flags and creation, or the number of its slots. So what making tests holds of every endpoint that calls
 -- hand back. Assumes nothing.
+use borrow.Author.Tests.{not-false}
 use Rattle.std.specs.Prelude.{None, Some, Ok, Err}
 use Prim.Native.Nat.{ℕ}
 use mathlib.Core.Path.{◌≡◌, refl, sym, ◌∙◌, ap}
@@ -20,7 +21,7 @@ use Rattle.handshake_rules.specs.Calls.{new_tests, not_made, new_of, awaited}
 use Rattle.handshake_rules.specs.Runs.{Call, next, Asked, ends, MadeOf}
 use Rattle.handshake_rules.specs.Claims.{KeptWhole, MadeFresh}
 use Rattle.handshake_rules.proofs.FlagLaws.{none_bad, good_flags_lem}
-use Rattle.handshake_rules.proofs.CheckLaws.{none_holds, not_not}
+use Rattle.handshake_rules.proofs.CheckLaws.{none_holds}
 use Rattle.handshake_rules.proofs.PlanLaws.{Does, after_call}
 
 -- h has what g has but for its slots, of which there are as many
@@ -76,7 +77,7 @@ made_passed n f c g = by (checked (new_tests n f)) refl where
       → unless not_made (record { making = Ok tt; endpoint = fresh n f c }) x ≡ record { making = Ok tt; endpoint = g } → Passed n f c g
   by (Ok _) t e =
       let h = none_holds (new_tests n f) t in
-      record { is = ap (λ (m : Made). m.endpoint) (sym e); full = not_not (full_name n) h.0; good = good_flags_lem f (none_bad (flag_test f) h.1) }
+      record { is = ap (λ (m : Made). m.endpoint) (sym e); full = not-false (full_name n) h.0; good = good_flags_lem f (none_bad (flag_test f) h.1) }
   by (Err r) t e = let q : Err r ≡ Ok tt = ap (λ (m : Made). m.making) e in let z : ◌≡◌ {A = ℕ} 0 1 = cc in absurd (omega arith)
 
 pub made_fresh : MadeFresh

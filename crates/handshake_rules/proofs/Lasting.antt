@@ -8,7 +8,7 @@ use mathlib.Core.List.{List, []}
 use native.Mathlib.Omega.{arith}
 use lib.ListN.{length}
 use lib.Dec.{eqb, leb, ltb}
-use borrow.Author.Tests.{eqb-true, eqb-false, lt-ltb, ltb-true}
+use borrow.Author.Tests.{not-false, eqb-true, eqb-false, lt-ltb, ltb-true}
 use Rattle.wire.specs.Run.{same_bytes}
 use Rattle.wire.specs.Frame.{body}
 use Rattle.wire.proofs.RunLaws.{same_decides, and_left}
@@ -33,7 +33,7 @@ use Rattle.handshake_rules.specs.Connecting.{reaction, on_status}
 use Rattle.handshake_rules.specs.Calls.{room, opened, start_tests, arrive_tests, close_tests, begun, arrived, silent, kept, start_of, arrive_of, close_of, expected, awaited, early_tests, message_tests, plan, message_of}
 use Rattle.handshake_rules.specs.Runs.{Call, Start, Arrive, Close, Message, step, next, ends}
 use Rattle.handshake_rules.specs.SlotClaims.{Carries, Shown, EndedBy, Lasting, peer, kind_of}
-use Rattle.handshake_rules.proofs.CheckLaws.{not_not, unless_elim}
+use Rattle.handshake_rules.proofs.CheckLaws.{unless_elim}
 use Rattle.handshake_rules.proofs.SlotLaws.{put_at, found, both_true}
 use Rattle.handshake_rules.proofs.PlanLaws.{Sane, sane, either}
 use Rattle.handshake_rules.proofs.StageLaws.{attempt_at, message_refused}
@@ -208,11 +208,11 @@ module _ (g : Endpoint) (many : length g.slots ≡ 32) (i : ℕ) (up : (slot_at 
   last (Start n out) k =
       inl
       (unless_elim (λ d. Stays d.told.endpoint) (λ r. silent (kept g r)) (begun g n) (start_tests g n (length out)) (λ r. refl)
-      (λ h. opens (opened AwaitsStatus n) (not_not _ h.1.1.1.0)))
+      (λ h. opens (opened AwaitsStatus n) (not-false _ h.1.1.1.0)))
   last Arrive k =
       inl
       (unless_elim (λ t. Stays t.endpoint) (kept g) (arrived g) (arrive_tests g) (λ r. refl)
-      (λ h. opens (opened AwaitsName []) (not_not _ h.0)))
+      (λ h. opens (opened AwaitsName []) (not-false _ h.0)))
   last (Close s) k =
       unless_elim (λ t. Stays t.endpoint ⊎ ((s ≡ i) × (slot_at t.endpoint i ≡ free_slot))) (kept g) _ (close_tests g s) (λ r. inl refl)
       (λ h. put_at g s free_slot i)

@@ -8,7 +8,7 @@ use mathlib.Core.List.{List, [], ◌∷◌}
 use native.Mathlib.Omega.{arith}
 use lib.ListN.{length, length-set}
 use lib.Dec.{eqb}
-use borrow.Author.Tests.{eqb-true, eqb-false, eq-eqb, ltb-true}
+use borrow.Author.Tests.{not-false, eqb-true, eqb-false, eq-eqb, ltb-true}
 use Rattle.wire.specs.Run.{same_bytes, order}
 use Rattle.wire.specs.Frame.{body}
 use Rattle.wire.proofs.RunLaws.{same_decides}
@@ -34,7 +34,6 @@ use Rattle.handshake_rules.specs.Calls.{opened, expected, awaited}
 use Rattle.handshake_rules.specs.Runs.{Call, next, Asked, ends}
 use Rattle.handshake_rules.specs.SlotClaims.{peer, kind_of, Fine, PeersApart}
 use Rattle.handshake_rules.specs.Claims.{NoneHolds}
-use Rattle.handshake_rules.proofs.CheckLaws.{not_not}
 use Rattle.handshake_rules.proofs.MessageLaws.{full_short}
 use Rattle.handshake_rules.proofs.SlotLaws.{put_at, put_same, put_other, blank, found, none_found}
 use Rattle.handshake_rules.proofs.PlanLaws.{either, Does, after_call}
@@ -222,7 +221,7 @@ module _ (g : Endpoint) (a : Apart g) (s : ℕ) where
   unfolding expected
   good_rule c b Free e h = tt
   good_rule c b AwaitsName e h =
-      good_name (name_name b) (name_flags b) (name_creation b) c (full_short (name_name b) (not_not (full_name (name_name b)) h.1.1.0))
+      good_name (name_name b) (name_flags b) (name_creation b) c (full_short (name_name b) (not-false (full_name (name_name b)) h.1.1.0))
   good_rule c b AwaitsAlive e h =
       either GoodPlan (same_bytes (status_word b) true_word) _ _ (stays _ (ap kind e) refl (λ z. omega arith))
       (either GoodPlan (same_bytes (status_word b) false_word) _ _ away tt)
@@ -261,7 +260,7 @@ apart_call g c k a =
     after_call Apart g a (λ s. apart_freed g s a) c k
     (λ n size h.
     apart_put g _ (opened AwaitsStatus n) a (λ e. absurd (omega arith))
-    (λ j q. new_peer g a n (full_short n (not_not (full_name n) h.1.0)) (or_right (same_bytes (name_bytes g.name) n) (is_slot (lowest AnyTaken n g)) h.1.1.0) j))
+    (λ j q. new_peer g a n (full_short n (not-false (full_name n) h.1.0)) (or_right (same_bytes (name_bytes g.name) n) (is_slot (lowest AnyTaken n g)) h.1.1.0) j))
     (λ h. apart_put g _ (opened AwaitsName []) a (λ e. no_peer) (λ j m. lone (opened AwaitsName []) (slot_at g j) no_peer))
     (λ s m ch size x h. apart_plan g a s (awaited g s m ch).rule (good_rule g a s ch (body m) (slot_at g s).stage refl h.1.1.1.1.1))
 

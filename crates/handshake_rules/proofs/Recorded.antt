@@ -1,5 +1,6 @@
 -- Whatever is not yet recorded is zero or empty, and all of a free slot; a recorded peer is a full name, with zero behind it: in every endpoint that
 -- making and calls give. Assumes nothing.
+use borrow.Author.Tests.{not-false}
 use Rattle.std.specs.Prelude.{None, Some}
 use Prim.Native.Nat.{ℕ}
 use mathlib.Core.Path.{◌≡◌, refl, sym, ◌∙◌, ap, subst}
@@ -30,7 +31,6 @@ use Rattle.handshake_rules.specs.Runs.{Call, next, Asked, ends}
 use Rattle.handshake_rules.specs.SlotClaims.{Unrecorded, FullPeer, Holds, Recorded}
 use Rattle.handshake_rules.specs.Claims.{NoneHolds}
 use Rattle.handshake_rules.specs.Forms.{form_tests}
-use Rattle.handshake_rules.proofs.CheckLaws.{not_not}
 use Rattle.handshake_rules.proofs.SlotLaws.{put_at, blank}
 use Rattle.handshake_rules.proofs.PlanLaws.{either, Does, after_call}
 use Rattle.handshake_rules.proofs.Kept.{made_fresh}
@@ -100,7 +100,7 @@ module _ (sl : Slot) (h : Holds sl) where
   unfolding expected
   acts_rule g c b Free e t = tt
   acts_rule g c b AwaitsName e t =
-      acts_on_name g (name_name b) (name_flags b) (name_creation b) c (greeting g (name_name b)) (not_not (full_name (name_name b)) t.1.1.0)
+      acts_on_name g (name_name b) (name_flags b) (name_creation b) c (greeting g (name_name b)) (not-false (full_name (name_name b)) t.1.1.0)
   acts_rule g c b AwaitsAlive e t =
       either Acts (same_bytes (status_word b) true_word) _ _ (goes_on sl AwaitsReply _ _ _ h (full_at AwaitsAlive e) tt)
       (either Acts (same_bytes (status_word b) false_word) _ _ free_holds tt)
@@ -115,7 +115,7 @@ each_call g c k h =
     after_call Each g h (λ s. each_put g s free_slot h free_holds) c k
     (λ n size t.
     each_put g _ (opened AwaitsStatus n) h
-    (record { unrecorded = (refl, refl, refl); full = ap full_name (name_back n) ∙ not_not (full_name n) t.1.0; zero = named n }))
+    (record { unrecorded = (refl, refl, refl); full = ap full_name (name_back n) ∙ not-false (full_name n) t.1.0; zero = named n }))
     (λ t. each_put g _ (opened AwaitsName []) h (record { unrecorded = refl; full = tt; zero = named [] }))
     (λ s m ch size x t.
     each_plan g s (awaited g s m ch).rule h

@@ -8,7 +8,8 @@ use mathlib.Core.List.{List, [], ◌∷◌, ◌++◌, map}
 use mathlib.Core.Option.{Option, none, some}
 use native.Mathlib.Omega.{arith}
 use lib.ListN.{length, get_or, drop, length-append, length-drop, get_or-append}
-use lib.Seq.{get_or-append-add}
+use Rattle.std.proofs.Math.Seq.{get_or-append_right}
+use Rattle.std.proofs.Math.Bool.{and_self}
 use lib.Dec.{leb, ltb}
 use borrow.Author.Tests.{ltb-false, leb-false}
 use Rattle.wire.specs.Run.{same_bytes}
@@ -31,11 +32,6 @@ use Rattle.handshake_rules.proofs.CookieLaws.{digest_sixteen}
 -- ---- the bytes written
 
 -- bytes apart from n to n + 16 do not depend on the sixteen bytes that stand there
-past : (xs ys : List ℕ) (i : ℕ) → length xs ≤ i → get_or (xs ++ ys) i 0 ≡ get_or ys (i - length xs) 0
-past xs ys i h =
-    let e : i ≡ length xs + (i - length xs) = omega arith in
-    ap (λ (j : ℕ). get_or (xs ++ ys) j 0) e ∙ get_or-append-add xs ys (i - length xs) 0
-
 around : (h d₁ d₂ out : List ℕ) (n i : ℕ) → length h ≡ n → length d₁ ≡ 16 → length d₂ ≡ 16 → (leb n i && ltb i (n + 16)) ≡ false
     → get_or (written (h ++ d₁) out) i 0 ≡ get_or (written (h ++ d₂) out) i 0
 unfolding written
@@ -60,7 +56,7 @@ around h d₁ d₂ out n i hn h₁ h₂ e =
     cases true true p q e = absurd (true≢false e)
     cases true false p q e =
         let ge : n + 16 ≤ i = ltb-false i (n + 16) q in
-        past (h ++ d₁) r i (omega (arith, l₁)) ∙ ap (λ (m : ℕ). get_or r (i - m) 0) (l₁ ∙ sym l₂) ∙ sym (past (h ++ d₂) r i (omega (arith, l₂)))
+        get_or-append_right (h ++ d₁) r i 0 (omega (arith, l₁)) ∙ ap (λ (m : ℕ). get_or r (i - m) 0) (l₁ ∙ sym l₂) ∙ sym (get_or-append_right (h ++ d₂) r i 0 (omega (arith, l₂)))
     cases false b p q e = let lt : i < n = leb-false n i p in front d₁ h₁ lt ∙ sym (front d₂ h₂ lt)
 
 pub render_size : (k₁ k₂ : List ℕ) (w : Writes) → length (render k₁ w) ≡ length (render k₂ w)
@@ -133,10 +129,6 @@ decided k₁ k₂ (proven c d a) e = alike (same_bytes d (digest_of c k₁)) (sa
 
 -- ---- one call
 
-both : (b : Bool) → b && b ≡ b
-both true = refl
-both false = refl
-
 -- what is done with one outcome
 ended : (k₁ k₂ : List ℕ) (g : Endpoint) (s : ℕ) (out : List ℕ) (o : Outcome)
     → Same (writes_of o) (writes_of o) (finished k₁ g s o) (finished k₂ g s o) (written (finished k₁ g s o).bytes out) (written (finished k₂ g s o).bytes out)
@@ -148,7 +140,7 @@ ended k₁ k₂ g s out (go a) =
       answer = rw n;
       endpoint = refl;
       size = sized n;
-      bytes = λ i e. output k₁ k₂ out a.writes i (sym (both (excepted a.writes i)) ∙ e);
+      bytes = λ i e. output k₁ k₂ out a.writes i (sym (and_self (excepted a.writes i)) ∙ e);
     }
   where
     sized : length (render k₁ a.writes) ≡ length (render k₂ a.writes)

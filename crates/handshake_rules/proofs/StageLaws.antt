@@ -2,13 +2,13 @@
 use Rattle.std.specs.Prelude.{None, Ok, Err}
 use Rattle.names.specs.Held.{name_bytes}
 use Prim.Native.Nat.{ℕ, ◌≤◌, ◌<◌}
-use mathlib.Core.Path.{◌≡◌, refl, sym, ◌∙◌, ap, subst}
+use mathlib.Core.Path.{◌≡◌, refl, sym, ◌∙◌, ap, ap₂, subst}
 use mathlib.Core.Bool.{Bool, true, false, true≢false, cond, not, ◌&&◌, ◌||◌}
 use mathlib.Core.List.{List, [], ◌∷◌, ◌++◌}
 use native.Mathlib.Omega.{arith}
 use lib.ListN.{length}
 use lib.Dec.{leb, ltb, eqb}
-use borrow.Author.Tests.{ltb-true, ltb-false, leb-true}
+use borrow.Author.Tests.{not-false, ltb-true, ltb-false, leb-true}
 use Rattle.wire.specs.Run.{part, same_bytes, order}
 use Rattle.wire.specs.Output.{written}
 use Rattle.wire.specs.Frame.{is_frame, body}
@@ -36,7 +36,7 @@ use Rattle.handshake_rules.specs.Plans.{Done, Act, proven, fails, Expected, stag
 use Rattle.handshake_rules.specs.Accepting.{greeting, contest, is_greater}
 use Rattle.handshake_rules.specs.Connecting.{expect_ack}
 use Rattle.handshake_rules.specs.Calls.{room, start_tests, start_of, begun, silent, kept, expected, awaited, early_tests, frame_tests, plan, on_frame, message_of}
-use Rattle.handshake_rules.proofs.CheckLaws.{not_not, and_then, checked_append, none_holds, unless_elim}
+use Rattle.handshake_rules.proofs.CheckLaws.{and_then, checked_append, none_holds, unless_elim}
 use Rattle.handshake_rules.proofs.MessageLaws.{full_short}
 use Rattle.handshake_rules.proofs.SlotLaws.{spared_kept}
 
@@ -65,40 +65,43 @@ module _ (g : Endpoint) (n : List ℕ) (size : ℕ) where
   pub may_start : checked (start_tests g n size) ≡ Ok tt → (lowest_free g < 32) × (length n ≤ 255) × (room ≤ size)
   may_start e =
       let h = none_holds (start_tests g n size) e in
-      (ltb-true (lowest_free g) 32 (not_not _ h.1.1.1.0), full_short n (not_not _ h.1.0), ltb-false size room h.0)
+      (ltb-true (lowest_free g) 32 (not-false _ h.1.1.1.0), full_short n (not-false _ h.1.0), ltb-false size room h.0)
 
 -- ---- a stage
 
 module _ (i w : List ℕ) (g : Endpoint) (s : ℕ) (e : Expected) where
-  pub stage_refused : (r : Refusal) → checked (form_tests e.form) ≡ Err r → concluded i w g s (stage_plan e) ≡ refused g s r
+  stage_refused : (r : Refusal) → checked (form_tests e.form) ≡ Err r → concluded i w g s (stage_plan e) ≡ refused g s r
   unfolding settled finished
   stage_refused r h = ap (λ (x : Check). concluded i w g s (unless fails e.rule x)) h
 
 -- what a form refuses is told so, and nothing is written: with the cookie at hand, and with any
-module _ (g : Endpoint) (s : ℕ) (e : Expected) (r : Refusal) (out : List ℕ) {t : Told} (h : checked (form_tests e.form) ≡ Err r) (q : t ≡ (refused g s r).told) where
+module _ (g : Endpoint) (s : ℕ) (e : Expected) {x : Check} (h : x ≡ checked (form_tests e.form)) {r : Refusal} (i : x ≡ Err r) {t : Told} (q : t ≡ (refused g s r).told) (out : List ℕ) where
   pub form_refused : (k : List ℕ) → (t ≡ (concluded k k g s (stage_plan e)).told) × (out ≡ written (concluded k k g s (stage_plan e)).bytes out)
-  form_refused k = settle (concluded k k g s (stage_plan e)) (refused g s r) (stage_refused k k g s e r h) out q (sym (written_none out))
+  form_refused k = settle (concluded k k g s (stage_plan e)) (refused g s r) (stage_refused k k g s e r (sym h ∙ i)) out q (sym (written_none out))
 
   pub form_refused_alike : ((k : List ℕ) → t ≡ (concluded k k g s (stage_plan e)).told)
       × ((k : List ℕ) → out ≡ written (concluded k k g s (stage_plan e)).bytes out)
   form_refused_alike = (λ k. (form_refused k).0, λ k. (form_refused k).1)
 
--- the digest check
-module _ (i w : List ℕ) (g : Endpoint) (s c : ℕ) (d : List ℕ) (a : Act) where
-  pub proven_right : same_bytes d (digest_of c i) ≡ true
-      → concluded i w g s (proven c d a) ≡ answered g s a.slot a.other (render w a.writes)
-  unfolding settled finished
-  proven_right h = ap (λ (x : Bool). finished w g s (judged x a)) h
+-- the digest check, of a part p of the message and the slot's record t
+module _ (i w : List ℕ) (g : Endpoint) (s : ℕ) (a : Act) {sl t : Slot} {d p : List ℕ} (q : p ≡ d) (z : t ≡ sl) {v : Bool}
+    (h : v ≡ same_bytes p (digest_of t.challenge i)) where
+  verdict : same_bytes d (digest_of sl.challenge i) ≡ v
+  verdict = sym (h ∙ ap₂ (λ (y : List ℕ) (u : Slot). same_bytes y (digest_of u.challenge i)) q z)
 
-  pub proven_wrong : same_bytes d (digest_of c i) ≡ false → concluded i w g s (proven c d a) ≡ refused g s WrongDigest
+  pub proven_right : v ≡ true → concluded i w g s (proven sl.challenge d a) ≡ answered g s a.slot a.other (render w a.writes)
   unfolding settled finished
-  proven_wrong h = ap (λ (x : Bool). finished w g s (judged x a)) h
+  proven_right n = ap (λ (x : Bool). finished w g s (judged x a)) (verdict ∙ n)
+
+  pub proven_wrong : v ≡ false → concluded i w g s (proven sl.challenge d a) ≡ refused g s WrongDigest
+  unfolding settled finished
+  proven_wrong n = ap (λ (x : Bool). finished w g s (judged x a)) (verdict ∙ n)
 
 -- what a check that passed has shown
 pub name_passed : (b : List ℕ) → checked (form_tests (name_form b)) ≡ Ok tt → (extent name_l b ≤ length b) × (full_name (name_name b) ≡ true)
 name_passed b e =
     let h = none_holds (form_tests (name_form b)) e in
-    (leb-true (extent name_l b) (length b) (not_not _ h.1.0), not_not _ h.1.1.0)
+    (leb-true (extent name_l b) (length b) (not-false _ h.1.0), not-false _ h.1.1.0)
 
 pub status_passed : (b : List ℕ) → checked (form_tests (status_form b)) ≡ Ok tt → 1 ≤ length b
 unfolding be_at part
@@ -107,7 +110,7 @@ status_passed (x ∷ b) e = omega arith
 
 pub challenge_passed : (p b : List ℕ) → checked (form_tests (challenge_form p b)) ≡ Ok tt → extent challenge_l b ≤ length b
 challenge_passed p b e =
-    let h = none_holds (form_tests (challenge_form p b)) e in leb-true (extent challenge_l b) (length b) (not_not _ h.1.0)
+    let h = none_holds (form_tests (challenge_form p b)) e in leb-true (extent challenge_l b) (length b) (not-false _ h.1.0)
 
 -- our attempt's slot is one of the 32
 attempt_of : (a b c d x : Bool) (m j : ℕ) → cond a NotAllowed (cond b Nok (cond c (contest x m) (cond d Alive greet.Ok))) ≡ OkSimultaneous j → (c ≡ true) × (m ≡ j)

@@ -1,7 +1,6 @@
 use Prim.Native.Nat.{◌+◌}
 use mathlib.Core.Path.{sym, ◌∙◌}
 use lib.ListN.{length}
-use Rattle.std.proofs.lemmas.Result.{err_from_is_err_and}
 use Rattle.epmd_rules.specs.Requests.{port_please2_rules}
 use Rattle.epmd_client_rules.specs.Requests.{port_please2_frame, port_please2_writing}
 use Rattle.epmd_client_rules.proofs.WritingLaws.{writes_none, writes_frame, port_please2_held, port_please2_size}
@@ -12,8 +11,7 @@ unfolding port_please2_writing
 returns-in_err-count c =
     let a = c.args in
     let n = a.name.now in
-    let p = err_from_is_err_and c.from_residual.result c.from_residual.ensures.1 in
-    rw (p.1, p.2) (writes_none (port_please2_rules n) (port_please2_frame n) (3 + length n) (length a.out.now) (port_please2_size n) _ (sym c.in_err-count.was ∙ c.decide_port_please2.ensures) a.out.now)
+    writes_none (port_please2_rules n) (port_please2_frame n) (3 + length n) (length a.out.now) (port_please2_size n) c.decide_port_please2.ensures c.in_err-count.was c.from_residual.result c.from_residual.ensures.1 a.out.now
 
 pub put_port_please2-requires : goal.put_port_please2-requires
 put_port_please2-requires c = let a = c.args in port_please2_held a.name.now (length a.out.now) _ (sym c.decide_port_please2.ensures ∙ c.in_ok-count.was)
@@ -23,4 +21,4 @@ unfolding port_please2_writing
 returns c =
     let a = c.args in
     let n = a.name.now in
-    writes_frame (port_please2_rules n) (port_please2_frame n) (3 + length n) (length a.out.now) (port_please2_size n) _ (sym c.in_ok-count.was ∙ c.decide_port_please2.ensures) a.out.now _ c.put_port_please2.ensures
+    writes_frame (port_please2_rules n) (port_please2_frame n) (3 + length n) (length a.out.now) (port_please2_size n) c.decide_port_please2.ensures c.in_ok-count.was a.out.now _ c.put_port_please2.ensures

@@ -1,3 +1,4 @@
+use borrow.Author.Tests.{not-false}
 use mathlib.Core.Path.{◌≡◌, refl, sym, ◌∙◌, ap}
 use mathlib.Core.Bool.{true}
 use mathlib.Core.List.{List, []}
@@ -10,13 +11,13 @@ use Rattle.handshake_rules.specs.declared.endpoint.Slot.{Slot}
 use Rattle.handshake_rules.specs.Refusals.{checked}
 use Rattle.handshake_rules.specs.Calls.{new_tests, new_of}
 use Rattle.handshake_state.specs.Bytes.{owned_by, endpoint_of}
-use Rattle.handshake_rules.proofs.CheckLaws.{none_holds, not_not}
+use Rattle.handshake_rules.proofs.CheckLaws.{none_holds}
 use Rattle.handshake_rules.proofs.MessageLaws.{full_short}
 use Rattle.handshake_state.proofs.BytesLaws.{none_taken}
 use Rattle.handshake.proofs.calls.make.Goals as goal
 
 passed-full : (n : List ℕ) (f : ℕ) → checked (new_tests n f) ≡ Ok tt → full_name n ≡ true
-passed-full n f e = not_not (full_name n) (none_holds (new_tests n f) e).0
+passed-full n f e = not-false (full_name n) (none_holds (new_tests n f) e).0
 
 pub returns-in_err-check_own : goal.returns-in_err-check_own
 unfolding new_of

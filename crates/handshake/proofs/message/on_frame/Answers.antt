@@ -1,5 +1,4 @@
 use Rattle.handshake_rules.proofs.StageLaws.{settle, framed_cut, framed_stage}
-use Rattle.handshake_rules.proofs.CheckLaws.{said_yes, said_no}
 use Rattle.handshake_rules.specs.Calls.{expected, on_frame}
 use Rattle.handshake_rules.specs.Plans.{refused, stage_plan, concluded}
 use Rattle.handshake_rules.specs.Endpoint.{slot_at}
@@ -18,11 +17,11 @@ returns-then-not-is_frame c =
     let a = c.args in
     let k = a.cookie.now in
     settle (on_frame k k (endpoint_of a.state.now) a.at a.stage a.frame.now a.challenge) (refused (endpoint_of a.state.now) a.at NotAFrame)
-    (framed_cut k k (endpoint_of a.state.now) a.at a.stage a.frame.now a.challenge (said_no c.is_frame.ensures c.if-not-is_frame.true-raw)) a.out.now c.refuse.ensures
+    (framed_cut k k (endpoint_of a.state.now) a.at a.stage a.frame.now a.challenge (sym c.is_frame.ensures ∙ c.if-not-is_frame.true)) a.out.now c.refuse.ensures
     (sym (written_none a.out.now))
 
 pub body_of-requires : goal.body_of-requires
-body_of-requires c = omega (arith, (frame_told c.args.frame.now (said_yes c.is_frame.ensures c.if-not-is_frame.false-raw)).0)
+body_of-requires c = omega (arith, (frame_told c.args.frame.now (sym c.is_frame.ensures ∙ c.if-not-is_frame.false)).0)
 
 pub returns : goal.returns
 returns c =
@@ -30,6 +29,6 @@ returns c =
     let k = a.cookie.now in
     settle (on_frame k k (endpoint_of a.state.now) a.at a.stage a.frame.now a.challenge)
     (concluded k k (endpoint_of a.state.now) a.at (stage_plan (expected (endpoint_of a.state.now) (slot_at (endpoint_of a.state.now) a.at) a.challenge c.body_of.result.now a.stage)))
-    (framed_stage k k (endpoint_of a.state.now) a.at a.stage a.frame.now a.challenge (said_yes c.is_frame.ensures c.if-not-is_frame.false-raw)
+    (framed_stage k k (endpoint_of a.state.now) a.at a.stage a.frame.now a.challenge (sym c.is_frame.ensures ∙ c.if-not-is_frame.false)
     ∙ ap (λ (b : List ℕ). concluded k k (endpoint_of a.state.now) a.at (stage_plan (expected (endpoint_of a.state.now) (slot_at (endpoint_of a.state.now) a.at) a.challenge b a.stage))) (sym c.body_of.ensures))
     a.out.now c.by_stage.ensures.0 c.by_stage.ensures.1

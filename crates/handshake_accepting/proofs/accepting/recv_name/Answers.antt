@@ -21,4 +21,4 @@ pub returns-in-Err : goal.returns-in-Err
 returns-in-Err c =
     let a = c.args in
     let g = endpoint_of a.state.now in
-    form_refused_alike g a.at (expect_name g a.challenge a.body.now) c.in-Err.why a.out.now (sym c.check_name.ensures ∙ c.in-Err.is) c.refuse.ensures
+    form_refused_alike g a.at (expect_name g a.challenge a.body.now) c.check_name.ensures c.in-Err.is c.refuse.ensures a.out.now

@@ -17,5 +17,5 @@ pub returns-in-Err : goal.returns-in-Err
 returns-in-Err c =
     let a = c.args in
     let g = endpoint_of a.state.now in
-    let e = ap (λ (n : List ℕ). checked (form_tests (challenge_form n a.body.now))) (sym c.peer_at.ensures) ∙ sym c.check_challenge.ensures ∙ c.in-Err.is in
-    form_refused g a.at (expect_challenge (slot_at g a.at) a.challenge a.body.now) c.in-Err.why a.out.now e c.refuse.ensures a.cookie.bytes.now
+    let h = c.check_challenge.ensures ∙ ap (λ (n : List ℕ). checked (form_tests (challenge_form n a.body.now))) c.peer_at.ensures in
+    form_refused g a.at (expect_challenge (slot_at g a.at) a.challenge a.body.now) h c.in-Err.is c.refuse.ensures a.out.now a.cookie.bytes.now

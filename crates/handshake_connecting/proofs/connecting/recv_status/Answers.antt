@@ -10,7 +10,7 @@ pub returns-in-Err : goal.returns-in-Err
 returns-in-Err c =
     let a = c.args in
     let g = endpoint_of a.state.now in
-    form_refused_alike g a.at (expect_status (slot_at g a.at) a.body.now) c.in-Err.why a.out.now (sym c.check_status.ensures ∙ c.in-Err.is) c.refuse.ensures
+    form_refused_alike g a.at (expect_status (slot_at g a.at) a.body.now) c.check_status.ensures c.in-Err.is c.refuse.ensures a.out.now
 
 pub slice_bounds-on_status-count : goal.slice_bounds-on_status-count
 slice_bounds-on_status-count c = omega (arith, status_passed c.args.body.now (sym c.check_status.ensures ∙ c.in-Ok.is))
