@@ -6,7 +6,6 @@ It goes by text. What it finds and a reader does not call a place is said in doc
 import collections
 import glob
 import re
-import subprocess
 import sys
 
 
