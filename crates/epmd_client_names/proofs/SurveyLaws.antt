@@ -24,7 +24,7 @@ use Rattle.epmd_client_names.specs.declared.tally.Tally.TheVariants as tally
 use Rattle.epmd_client_names.specs.Text.{tail_text, has_at, space_at, found, tail_at}
 use Rattle.epmd_client_names.specs.Tallies.{Set, Means, join_of, longer_of}
 use Rattle.epmd_client_names.specs.Survey.{Lines, Exact, Below, Rows, Room}
-use Rattle.epmd_client_names.proofs.TextLaws.{has_true, has_of, port_of, next_of, not_found}
+use Rattle.epmd_client_names.proofs.TextLaws.{has_true, has_of, tail_none, port_of, next_of, not_found}
 use Rattle.epmd_client_names.proofs.PortLaws.{TailHere, tail_length, tail_complete, tail_sound}
 use Rattle.epmd_client_names.proofs.TallyLaws.{same, Or, joined, later}
 use Rattle.epmd_client_names.proofs.LineLaws.{Stands, uncons, cons, line_long, tail_space, behind_word, at_tail, word, beyond, ended}
@@ -173,6 +173,16 @@ module _ (s : List ℕ) (p : ℕ) where
     more [] e = absurd e.1
     more (x ∷ xs) e = (e.0, omega (arith, e.1))
 
+  -- nor where no a is behind the space
+  pub skip_tail : (n : ℕ) → p ≤ length s → eqb (get_or s (p + 5 + n + 1) 0) 97 ≡ false → (xs : List Line) → Below s p (n + 1) xs → Below s p n xs
+  skip_tail n h f xs e = ⊎_elim (λ b. b) (λ x. absurd (none_tail s p n h (tail_none s (p + 5 + n) f) xs x)) (below_split n xs e)
+
+  pub skipped_tail : (n : ℕ) → p ≤ length s → eqb (get_or s (p + 5 + n + 1) 0) 97 ≡ false → (t : Tally) → Means (Below s p n) t → Means (Below s p (n + 1)) t
+  skipped_tail n h f t m = same (Below s p n) (Below s p (n + 1)) more (skip_tail n h f) t m where
+    more : (xs : List Line) → Below s p n xs → Below s p (n + 1) xs
+    more [] e = absurd e.1
+    more (x ∷ xs) e = (e.0, omega (arith, e.1))
+
   pub all_below : p < length s → (xs : List Line) → Lines (drop p s) xs → Below s p 256 xs
   unfolding Each
   all_below h [] r = absurd (omega (arith, ended s p r))
@@ -180,6 +190,21 @@ module _ (s : List ℕ) (p : ℕ) where
 
   pub all_turns : p < length s → (t : Tally) → Means (Below s p 256) t → Means (Lines (drop p s)) t
   all_turns h t m = same (Below s p 256) (Lines (drop p s)) (λ x b. b.0) (all_below h) t m
+
+  -- nor goes it on behind the text's end
+  pub all_within : (n : ℕ) → p < length s → (n < 256 → length s ≤ p + 5 + n) → (xs : List Line) → Lines (drop p s) xs → Below s p n xs
+  unfolding Each
+  all_within n h f [] r = absurd (omega (arith, ended s p r))
+  all_within n h f (x ∷ xs) r = by (ltb n 256) refl where
+    u : (q : ℕ) × Stands s p x q × Lines (drop q s) xs
+    u = uncons s p x xs (omega arith) r
+
+    by : (t : Bool) → ltb n 256 ≡ t → Below s p n (x ∷ xs)
+    by true g = (r, omega (arith, f (ltb-true n 256 g), u.1.next, u.1.inside, line_long x, tail_length x.port))
+    by false g = (r, omega (arith, ltb-false n 256 g, name_short x.name r.1.0.name))
+
+  pub turns_within : (n : ℕ) → p < length s → (n < 256 → length s ≤ p + 5 + n) → (t : Tally) → Means (Below s p n) t → Means (Lines (drop p s)) t
+  turns_within n h f t m = same (Below s p n) (Lines (drop p s)) (λ x b. b.0) (all_within n h f) t m
 
   pub no_word : p < length s → has_at s p name_word ≡ false → (xs : List Line) → Lines (drop p s) xs → ⊥
   no_word h f [] r = omega (arith, ended s p r)

@@ -7,7 +7,7 @@ use mathlib.Core.List.{List, ◌∷◌}
 use native.Mathlib.Omega.{arith}
 use lib.ListN.{length}
 use lib.Dec.{ltb, leb}
-use borrow.Author.Tests.{ltb-true, ltb-false, leb-true, leb-false}
+use borrow.Author.Tests.{ltb-true, ltb-false, leb-true, leb-false, lt-ltb, le-ltb}
 use Rattle.std.specs.Prelude.{Option, Some, None}
 use Rattle.epmd_client_rules.specs.Readings.{Line, most}
 use Rattle.epmd_client_names.specs.declared.tally.Tally.{Tally}
@@ -144,6 +144,43 @@ module _ (P Q : Set) (a b : Tally) (m : Means P a) (w : Means Q b) (apart : (x :
     by None y e f = same Q (Or P Q) (λ x q. inr q) (λ x o. ⊎_elim (λ p. absurd (nothing P a m e x p)) (λ q. q) o) b w
     by (Some i) None e f = same P (Or P Q) (λ x p. inl p) (λ x o. ⊎_elim (λ p. p) (λ q. absurd (nothing Q b w f x q)) o) a m
     by (Some i) (Some k) e f = both i k e f (ltb i k) (ltb k i) refl refl
+
+-- those of the second have fewer lines
+pub join_more : (a b : Tally) (i k : ℕ) → fewest_of a ≡ Some i → fewest_of b ≡ Some k → k < i → join_of a b ≡ beaten_of b
+unfolding join_of
+join_more a b i k e f l = rw (e, f, le-ltb i k (omega arith), lt-ltb k i l)
+
+-- no more lines than the larger number
+module _ (m : ℕ) where
+  abbrev pub AtMost : Tally → Type 0
+  AtMost t = (k : ℕ) → fewest_of t ≡ Some k → k ≤ m
+
+  beaten_lines : (t : Tally) → AtMost t → AtMost (beaten_of t)
+  beaten_lines tally.Nothing f = f
+  beaten_lines tally.Over f = f
+  beaten_lines (tally.One k) f = f
+  beaten_lines (tally.Least k) f = f
+  beaten_lines (tally.Several k) f = f
+
+  several_lines : (i : ℕ) → i ≤ m → AtMost (several_of i)
+  several_lines i h = by (ltb most i) refl where
+    by : (t : Bool) → ltb most i ≡ t → AtMost (cond t tally.Over (tally.Several i))
+    by true g k e = omega (arith, same_number (most + 1) k e, ltb-true most i g)
+    by false g k e = omega (arith, same_number i k e)
+
+  either_lines : (t : Bool) (a b : Tally) → AtMost a → AtMost b → AtMost (cond t a b)
+  either_lines true a b f g = f
+  either_lines false a b f g = g
+
+  pub join_lines : (a b : Tally) → AtMost a → AtMost b → AtMost (join_of a b)
+  unfolding join_of
+  join_lines a b f g = by (fewest_of a) (fewest_of b) refl where
+    by : (x y : Option ℕ) → fewest_of a ≡ x → AtMost (join_by x y a b)
+    by None y e = g
+    by (Some i) None e = f
+    by (Some i) (Some k) e =
+        either_lines (ltb i k) (beaten_of a) _ (beaten_lines a f)
+        (either_lines (ltb k i) (beaten_of b) (several_of i) (beaten_lines b g) (several_lines i (f i e)))
 
 -- ---- one more line in front of each
 

@@ -4,14 +4,17 @@ use mathlib.Core.Path.{◌≡◌, refl, sym, ap, ◌∙◌}
 use mathlib.Core.Bool.{Bool, true, false}
 use mathlib.Core.List.{List, ◌∷◌, ◌++◌}
 use native.Mathlib.Omega.{arith}
-use lib.ListN.{length, take, drop, get_or, length-append, length-drop, take-append-drop}
+use lib.ListN.{length, take, drop, get_or, length-append, length-drop, length-take, take-append-drop}
 use lib.Seq.{take_at, drop-drop, get_or-drop}
 use Rattle.std.specs.Prelude.{Option, Some, None}
-use borrow.Author.Tests.{eq-eqb, ne_eqb, lt-ltb, le-ltb}
+use lib.Dec.{eqb}
+use borrow.Author.Tests.{eq-eqb, ne_eqb, lt-ltb, le-ltb, eqb-false}
+use Rattle.epmd_rules.specs.Replies.{port_word}
 use Rattle.wire.specs.Run.{part}
-use Rattle.wire.proofs.RunLaws.{rest, same_std, same_decides}
+use Rattle.wire.proofs.RunLaws.{rest, same_std, same_decides, same_length_ne}
+use Rattle.epmd_rules.specs.Replies.{port_word}
 use Rattle.epmd_client_names.specs.declared.text.Tail.{Tail}
-use Rattle.epmd_client_names.specs.Text.{has_at, digit_at, closed_at, port_from, port_at}
+use Rattle.epmd_client_names.specs.Text.{has_at, digit_at, closed_at, port_from, port_at, tail_at}
 
 -- ---- words
 
@@ -26,6 +29,10 @@ pub has_of : (s : List ℕ) (at : ℕ) (w r : List ℕ) → drop at s ≡ w ++ r
 unfolding has_at part
 has_of s at w r e = (same_decides w (take (length w) (drop at s))).1 (sym (ap (take (length w)) e ∙ take_at w r (length w) refl))
 
+pub has_short : (s : List ℕ) (at : ℕ) (w : List ℕ) → at ≤ length s → length s - at < length w → has_at s at w ≡ false
+unfolding has_at part
+has_short s at w h l = same_length_ne w (take (length w) (drop at s)) (λ e. omega (arith, e, length-take (length w) (drop at s), length-drop at s))
+
 pub has_inside : (s : List ℕ) (at : ℕ) (w : List ℕ) → at ≤ length s → has_at s at w ≡ true → at + length w ≤ length s
 has_inside s at w h e = omega (arith, ap length (has_true s at w e), length-append w (drop (at + length w) s), length-drop at s)
 
@@ -37,6 +44,17 @@ has_other s at a w h = by (has_at s at (a ∷ w)) refl where
       let n : at + 0 ≡ at = omega arith in
       absurd (h (ap (λ (k : ℕ). get_or s k 0) (sym n) ∙ sym (get_or-drop at s 0 0) ∙ ap (λ (l : List ℕ). get_or l 0 0) (has_true s at (a ∷ w) e)))
   by false e = e
+
+-- another second byte than that of ` at port `
+pub tail_other : (s : List ℕ) (q : ℕ) → eqb (get_or s (q + 1) 0) 97 ≡ false → has_at s q port_word ≡ false
+tail_other s q h = by (has_at s q port_word) refl where
+  by : (t : Bool) → has_at s q port_word ≡ t → has_at s q port_word ≡ false
+  by true e = absurd (eqb-false (get_or s (q + 1) 0) 97 h (sym (get_or-drop q s 1 0) ∙ ap (λ (l : List ℕ). get_or l 1 0) (has_true s q port_word e)))
+  by false e = e
+
+pub tail_none : (s : List ℕ) (q : ℕ) → eqb (get_or s (q + 1) 0) 97 ≡ false → tail_at s q ≡ None
+unfolding tail_at
+tail_none s q h = rw (tail_other s q h)
 
 pub ruleset word_laws = (rest, same_std)
 
@@ -87,3 +105,12 @@ port_none s i h = rw h
 pub port_some : (s : List ℕ) (i d : ℕ) → digit_at s i ≡ Some d → port_at s i ≡ port_from 4 s (i + 1) d
 unfolding port_at
 port_some s i d h = rw h
+
+-- what follows a name, by the word there
+pub tail_on : (s : List ℕ) (q : ℕ) → has_at s q port_word ≡ true → tail_at s q ≡ port_at s (q + 9)
+unfolding tail_at
+tail_on s q h = rw h
+
+pub tail_off : (s : List ℕ) (q : ℕ) → has_at s q port_word ≡ false → tail_at s q ≡ None
+unfolding tail_at
+tail_off s q h = rw h

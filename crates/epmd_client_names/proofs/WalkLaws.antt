@@ -5,7 +5,7 @@ use mathlib.Core.Logic.{⊎_elim}
 use mathlib.Core.Bool.{true, false}
 use mathlib.Core.List.{List, [], ◌∷◌, ◌++◌, append_assoc, append-nil}
 use native.Mathlib.Omega.{arith}
-use lib.ListN.{length, drop, set, replicate, length-append}
+use lib.ListN.{length, get_or, drop, set, replicate, length-append}
 use lib.Seq.{set_at}
 use Rattle.std.specs.Prelude.{Option, Some, None, IsSome}
 use Rattle.std.specs.Option.{option_eq}
@@ -25,7 +25,7 @@ use Rattle.epmd_client_names.proofs.TextLaws.{has_of, port_of, next_of}
 use Rattle.epmd_client_names.proofs.PortLaws.{tail_length}
 use Rattle.epmd_client_names.proofs.TallyLaws.{same_number, no_number, Fewest, fewest, at_least, nothing}
 use Rattle.epmd_client_names.proofs.LineLaws.{Stands, uncons, cons, line_long, word, beyond}
-use Rattle.epmd_client_names.proofs.SurveyLaws.{First, first, below_one, below_split, skip, all_below}
+use Rattle.epmd_client_names.proofs.SurveyLaws.{First, first, below_one, below_split, skip, skip_tail, all_below, all_within}
 
 -- ---- the length of its first name: the one whose tally has as few lines
 
@@ -49,14 +49,26 @@ module _ (s : List ℕ) (p k n : ℕ) (small : k ≤ most) (t : Tally) (m : Mean
   pub lead_turn : option_eq eqb (fewest_of t) (Some k) ≡ false → (FirstBelow n x → ⊥) → FirstBelow (n + 1) x → ⊥
   lead_turn h f b = ⊎_elim (λ e. f e.1) (λ e. lead_not (not_same (fewest_of t) k h) e.1) (below_split s p n x (l.reads, b))
 
+  -- where the fewest are k, it is the one
+  pub lead_first : fewest_of t ≡ Some k → FirstIs n x
+  lead_first e =
+      let y : Fewest (Exact s p n) k = fewest (Exact s p n) t k m e small in
+      subst (FirstIs n) (l.only y.0 y.1.0 (omega (arith, y.2))) y.1.1
+
 pub lead_skip : (s : List ℕ) (p k n : ℕ) → p ≤ length s → space_at s (p + 5 + n) ≡ false → (x : List Line) → Lead s p k x → (FirstBelow n x → ⊥) → FirstBelow (n + 1) x → ⊥
 lead_skip s p k n h e x l f b = f (skip s p n h e x (l.reads, b)).1
+
+pub lead_skip_tail : (s : List ℕ) (p k n : ℕ) → p ≤ length s → eqb (get_or s (p + 5 + n + 1) 0) 97 ≡ false → (x : List Line) → Lead s p k x → (FirstBelow n x → ⊥) → FirstBelow (n + 1) x → ⊥
+lead_skip_tail s p k n h e x l f b = f (skip_tail s p n h e x (l.reads, b)).1
 
 pub lead_start : (s : List ℕ) (p k : ℕ) (x : List Line) → Lead s p k x → FirstBelow 1 x → ⊥
 lead_start s p k x l b = below_one s p x (l.reads, b)
 
 pub lead_end : (s : List ℕ) (p k : ℕ) (x : List Line) → p < length s → Lead s p k x → (FirstBelow 256 x → ⊥) → ⊥
 lead_end s p k x h l f = f (all_below s p h x l.reads).1
+
+pub lead_within : (s : List ℕ) (p k n : ℕ) (x : List Line) → p < length s → (n < 256 → length s ≤ p + 5 + n) → Lead s p k x → (FirstBelow n x → ⊥) → ⊥
+lead_within s p k n x h g l f = f (all_within s p n h g x l.reads).1
 
 -- some name is found
 len_some : (s : List ℕ) (p k : ℕ) (o : Option ℕ) → FirstLen s p k o → (x : List Line) → Lead s p k x → IsSome o

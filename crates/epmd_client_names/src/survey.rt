@@ -8,8 +8,10 @@ ghost use Rattle.epmd_client_names.specs.Survey.{Lines, Exact, Rows, Room, Place
 use crate::tally::Tally;
 use crate::text::{NAME_WORD, Tail};
 
-// The readings from p on whose first name has n bytes.
+// The readings from p on whose first name has n bytes. Few places come so far: apart, it leaves the loops that look at
+// all of them short.
 #[tactic(auto, using(crate::proofs::SurveyLaws::through_laws))]
+#[inline(never)]
 pub(crate) fn through(s: &[u8], p: usize, n: usize, tallies: &[Tally]) -> Tally
     requires { Through s.now p n tallies.now }
     ensures { Means (Exact s.now p n) result }
@@ -29,15 +31,17 @@ pub(crate) fn through(s: &[u8], p: usize, n: usize, tallies: &[Tally]) -> Tally
     }
 }
 
-// All readings from p on, where a line begins there. A name ends where a space follows it.
+// All readings from p on, where a line begins there. A name ends where a space follows it, and an a behind that.
+#[tactic(auto, using(crate::proofs::TextLaws::has_inside))]
+#[inline(never)]
 fn every(s: &[u8], p: usize, tallies: &[Tally]) -> Tally
     requires { Begun s.now p tallies.now }
     ensures { Means (Lines (drop p s.now)) result }
 {
     let from = p + NAME_WORD;
     let mut all = Tally::Nothing;
-    for n in 1..256 {
-        if crate::text::space_at(s, from + n) {
+    for n in 1..crate::text::lengths_end(s, from) {
+        if crate::text::space_at(s, from + n) && crate::text::a_behind(s, from + n) {
             all = all.join(through(s, p, n, tallies));
         }
     }

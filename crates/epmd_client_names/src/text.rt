@@ -1,5 +1,5 @@
 // What stands at a place of a text: a word, a port, the end of a line.
-ghost use Rattle.std.specs.Prelude.{◌≡◌, ◌+◌, ◌≤◌, length};
+ghost use Rattle.std.specs.Prelude.{◌≡◌, ◌+◌, ◌≤◌, ◌<◌, length, get_or, eqb};
 ghost use Rattle.epmd_client_names.specs.Text.{longest, has_at, space_at, digit_at, closed_at, port_at, tail_at};
 
 // How many bytes stand before a name, `name `, and between it and the port, ` at port `.
@@ -26,9 +26,19 @@ pub(crate) fn has(s: &[u8], at: usize, w: &[u8]) -> bool
 // Whether a space stands at a place: a name may end before it.
 #[tactic(auto, unfolding(crate::specs::Text::space_at))]
 pub(crate) fn space_at(s: &[u8], i: usize) -> bool
+    requires { i < length s.now }
     ensures { result ≡ space_at s.now i }
 {
-    matches!(s.get(i), Some(b' '))
+    s[i] == b' '
+}
+
+// Where the lengths end that a name from a place may have: at 256, or sooner where the text does.
+pub(crate) fn lengths_end(s: &[u8], from: usize) -> usize
+    requires { from ≤ length s.now }
+    ensures within { (result ≤ 256) × (from + result ≤ length s.now) }
+    ensures whole { result < 256 → length s.now ≤ from + result }
+{
+    (s.len() - from).min(256)
 }
 
 // The digit at a place.
@@ -76,6 +86,14 @@ fn port_at(s: &[u8], i: usize) -> Option<Tail>
         v = v * 10 + d;
     }
     closed(s, i + 5, v)
+}
+
+// Whether the byte behind a space lets ` at port ` stand there: behind most spaces there is another.
+pub(crate) fn a_behind(s: &[u8], i: usize) -> bool
+    requires { i < length s.now }
+    ensures { result ≡ eqb (get_or s.now (i + 1) 0) 97 }
+{
+    matches!(s.get(i + 1), Some(b'a'))
 }
 
 // What follows a name, at a place.

@@ -6,13 +6,15 @@ use crate::text::NAME_WORD;
 use epmd_client_rules::reply::LineAt;
 
 // The length of the first name of the only reading from p on with k lines or fewer.
+#[tactic(auto, using(crate::proofs::TextLaws::has_inside))]
 fn first_len(s: &[u8], p: usize, k: u8, tallies: &[Tally]) -> Option<usize>
     requires { Leading s.now p k tallies.now }
     ensures { FirstLen s.now p k result }
 {
     let from = p + NAME_WORD;
-    for n in 1..256 {
+    for n in 1..crate::text::lengths_end(s, from) {
         if crate::text::space_at(s, from + n)
+            && crate::text::a_behind(s, from + n)
             && crate::survey::through(s, p, n, tallies).fewest() == Some(k)
         {
             return Some(n);

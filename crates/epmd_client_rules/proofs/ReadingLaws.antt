@@ -5,7 +5,7 @@ use mathlib.Core.Path.{◌≡◌, refl, sym, ap, ap₂, ◌∙◌}
 use mathlib.Core.List.{List, [], ◌∷◌, ◌++◌, map, append_assoc}
 use native.Mathlib.Omega.{arith}
 use lib.ListN.{length, length-append}
-use Rattle.std.specs.Prelude.{Result}
+use Rattle.std.specs.Prelude.{Result, Ok, Err}
 use Rattle.wire.specs.Run.{part}
 use Rattle.wire.specs.Number.{be}
 use Rattle.wire.specs.Decimal.{decimal}
@@ -16,7 +16,7 @@ use Rattle.epmd_client_rules.specs.declared.unreadable.Unreadable.{Unreadable}
 use Rattle.epmd_client_rules.specs.declared.reply.NamesReply.{NamesReply}
 use Rattle.epmd_client_rules.specs.Readings.{Line, line_text, lines_text, lines_at, listed, Tells, none, several, only}
 use Rattle.epmd_client_rules.specs.Answers.{listing_number}
-use Rattle.epmd_client_rules.specs.ReadingClaims.{ToldOnce, NoReading, TwoReadings, OneReading, ReadAs, ReadExactly, line_in, LinesLie}
+use Rattle.epmd_client_rules.specs.ReadingClaims.{ToldOnce, NoReading, TwoReadings, OneReading, ReadAs, ReadExactly, ListingTold, line_in, LinesLie}
 
 module _ (b : List ℕ) where
   -- no two of the three
@@ -67,6 +67,10 @@ told_once b r s t u = once b t u
 
 pub read_exactly : ReadExactly
 read_exactly b r t = read_as b t
+
+pub listing_told : ListingTold
+listing_told (Ok r) = refl
+listing_told (Err why) = refl
 
 -- ---- where the names lie
 

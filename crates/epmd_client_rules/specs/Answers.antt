@@ -64,5 +64,5 @@ listing_number (Err why) = unreadable_number why
 
 -- all zero beside a refusal
 abbrev pub names_numbers : Result NamesReply Unreadable → NamesNumbers
-names_numbers (Err why) = record { refusal = unreadable_number why; port = 0; count = 0; line = replicate most no_line }
-names_numbers (Ok r) = record { refusal = 0; port = r.port; count = r.count; line = r.lines }
+names_numbers (Err why) = record { refusal = listing_number (Err why); port = 0; count = 0; line = replicate most no_line }
+names_numbers (Ok r) = record { refusal = listing_number (Ok r); port = r.port; count = r.count; line = r.lines }

@@ -28,7 +28,7 @@ use Rattle.epmd_client_rules.specs.Requests.{Writing, alive2_writing, port_pleas
 use Rattle.epmd_client_rules.specs.Replies.{result_in, name_in, extra_in, alive2_read, port2_read}
 use Rattle.epmd_client_rules.specs.Readings.{Line, Reading, listed, Tells}
 use Rattle.epmd_client_rules.specs.Answers.{alive2_numbers, port2_numbers}
-use Rattle.epmd_client_rules.specs.ReadingClaims.{ToldOnce, LinesLie, ReadExactly, PairAmbiguous}
+use Rattle.epmd_client_rules.specs.ReadingClaims.{ToldOnce, LinesLie, ReadExactly, ListingTold, PairAmbiguous}
 
 -- ---- "a request written from allowed fields is accepted as those fields"
 
@@ -211,6 +211,7 @@ pub record Promises : Type 0 where
   pub registered_and_read : RegisteredAndRead
   pub parts_lie : PartsLie
   pub refused_exactly : RefusedExactly
+  pub listing_told : ListingTold
   pub told_once : ToldOnce
   pub lines_lie : LinesLie
   pub pair_ambiguous : PairAmbiguous

@@ -5,7 +5,7 @@ use Rattle.epmd_client_rules.specs.declared.unreadable.Unreadable.{Unreadable}
 use Rattle.epmd_client_rules.specs.declared.reply.LineAt.{LineAt}
 use Rattle.epmd_client_rules.specs.declared.reply.NamesReply.{NamesReply}
 use Rattle.epmd_client_rules.specs.Readings.{Line, line_text, Reading, Reads, lines_at, Tells}
-use Rattle.epmd_client_rules.specs.Answers.{listing_number}
+use Rattle.epmd_client_rules.specs.Answers.{listing_number, names_numbers}
 
 -- the answer is fixed by the reply (ReadingLaws.told_once)
 abbrev pub ToldOnce : Type 0
@@ -29,6 +29,10 @@ pub record ReadAs (b : List ℕ) (number : ℕ) : Type 0 where
 -- (ReadingLaws.read_exactly)
 abbrev pub ReadExactly : Type 0
 ReadExactly = (b : List ℕ) (r : Result NamesReply Unreadable) → Tells b r → ReadAs b (listing_number r)
+
+-- and that number is the one that a host is told (ReadingLaws.listing_told)
+abbrev pub ListingTold : Type 0
+ListingTold = (r : Result NamesReply Unreadable) → (names_numbers r).refusal ≡ listing_number r
 
 -- the line that a place in a reply stands for
 abbrev pub line_in : List ℕ → LineAt → Line

@@ -4,7 +4,7 @@ use mathlib.Core.Path.{◌≡◌, refl, sym, ◌∙◌, ap, ap₂}
 use mathlib.Core.Bool.{Bool, true, false, cond, ◌&&◌, not, and-false}
 use mathlib.Core.List.{List, [], ◌∷◌, ◌++◌, append-nil, append_assoc}
 use native.Mathlib.Omega.{arith}
-use borrow.Author.Tests.{eqb-false, lt-ltb, le-ltb}
+use borrow.Author.Tests.{eq-eqb, ne_eqb, eqb-false, lt-ltb, le-ltb}
 use lib.Dec.{eqb, ltb}
 use lib.ListN.{length, length-append, length-drop, get_or, set, take, drop, replicate}
 use lib.Seq.{length-take-le, take_all, drop-drop, get_or-take}
@@ -13,7 +13,7 @@ use Rattle.std.specs.List.{position, position_or_len}
 use Rattle.std.specs.Simd.{first_chunks}
 use Rattle.std.proofs.lemmas.List.{get_or-map, get_or_past}
 use Rattle.std.proofs.lemmas.Grind.{get_or_after_one}
-use Rattle.wire.specs.Run.{part}
+use Rattle.wire.specs.Run.{part, same_bytes}
 use Rattle.wire.specs.Number.{be, num, be_at}
 use Rattle.wire.specs.Output.{overwrite}
 use Rattle.wire.specs.Table.{table}
@@ -23,7 +23,7 @@ use Rattle.wire.proofs.NumberLaws.{be_length, be_at_byte}
 use Rattle.wire.proofs.LayoutLaws.{layout_back, be_at_behind}
 use Rattle.wire.proofs.LookupLaws.{first_skip, first_hit, first_end, first_within}
 use Rattle.wire.proofs.OutputLaws.{overwrite_join}
-use Rattle.wire.proofs.TableLaws.{take_within, part_before, table_count, table_after, table_set, table_zeros}
+use Rattle.wire.proofs.TableLaws.{take_within, part_before, table_count, table_at, table_after, table_set, table_zeros}
 use Rattle.wire.proofs.RunLaws.{part_length, same_length_ne, same_false}
 use Rattle.names.specs.Held.{name_of, name_bytes}
 use Rattle.epmd_rules.specs.State.{Registry}
@@ -38,6 +38,11 @@ entries b = table entry_by entry_size places head_size b
 pub here_long : (b : List ℕ) → length (registry_of b).registrations ≡ places
 unfolding registry_of
 here_long b = table_count entry_by entry_size places head_size b
+
+-- a registration is read where it lies
+pub entry_here : (b : List ℕ) (i : ℕ) → i < places → entry_by (part (head_size + i * entry_size) entry_size b) ≡ entry_at (registry_of b) i
+unfolding registry_of entry_at
+entry_here b i h = sym (table_at entry_by entry_size places head_size i (head_size + i * entry_size) b free h refl)
 
 -- what is written of a registration is read back
 pub entry_back : (p : Registration) → Fits entry_l (entry_values p) → entry_by (entry_bytes p) ≡ p
@@ -165,6 +170,14 @@ module _ (name : List ℕ) (p : Registration) where
   other_last h =
       sym (ap (λ (t : Bool). not (is_free p) && t) (same_false (name_bytes p.name) name (λ e. h (ap last_of e))) ∙ and-false (not (is_free p)))
 
+  pub none_held : length (name_bytes p.name) ≡ 0 → false ≡ has_name name p
+  unfolding has_name is_free
+  none_held h = rw (eq-eqb (length (name_bytes p.name)) 0 h)
+
+  pub by_bytes : (length (name_bytes p.name) ≡ 0 → ⊥) → same_bytes (name_bytes p.name) name ≡ has_name name p
+  unfolding has_name is_free
+  by_bytes h = rw (ne_eqb (length (name_bytes p.name)) 0 h)
+
 -- ---- look-up over the records, by any test
 
 -- a table is its records, each read
@@ -270,6 +283,10 @@ leap name b t i j last z s f =
       within = omega (arith, e, s.within, first_within (is_like (length name) (last_of name)) (left b i), length-drop i (registry_of b).registrations, here_long b);
       passed = omega (arith, s.passed, e, pass_unlike name (left b i), ap (first_at (has_name name)) (drop-drop k i (registry_of b).registrations ∙ ap (left b) (sym e)));
     }
+
+pub empty_last : (l : List ℕ) → length l ≡ 0 → last_of l ≡ 0
+empty_last [] e = refl
+empty_last (x ∷ l) e = absurd (omega (arith, e))
 
 -- the last byte of a record's name is where its length says
 pub last_here : (b : List ℕ) (n : ℕ) → n ≡ be_at 1 0 b → n ≤ 255 → length b ≡ entry_size → last_of (name_bytes (entry_by b).name) ≡ be_at 1 n b

@@ -93,7 +93,9 @@ fn send_own_challenge(state: &[u8; SIZE], challenge: u32, out: &mut [u8], at: us
     send_challenge(out, at, own(state), challenge)
 }
 
-// A status, and our challenge behind it; another slot may be freed.
+// A status, and our challenge behind it; another slot may be freed. Apart, so that a message's call holds one slot's record and not one for
+// each greeting.
+#[inline(never)]
 fn welcome(
     state: &mut [u8; SIZE],
     at: usize,
@@ -117,16 +119,19 @@ fn on_name(state: &mut [u8; SIZE], at: usize, peer: Node, challenge: u32, out: &
     requires { Roomy out.old }
     ensures { ConcludesAlike at (λ g. spec.on_name g peer.entry.name.now peer.entry.flags peer.entry.creation challenge (spec.greeting g peer.entry.name.now)) state.old (Ok result) state.new out.old out.new }
 {
-    let met = heard(Stage::AwaitsReply, peer, challenge);
     match greeting(state, peer.name) {
         Greeting::NotAllowed => say(state, at, Slot::default(), b"not_allowed", out),
         Greeting::Nok => say(state, at, Slot::default(), b"nok", out),
         Greeting::OkSimultaneous(mine) => {
+            let met = heard(Stage::AwaitsReply, peer, challenge);
             let word = b"ok_simultaneous";
             welcome(state, at, met, Some(mine), word, challenge, out)
         }
-        Greeting::Alive => say(state, at, sent(met, Stage::AwaitsAlive, 0), b"alive", out),
-        Greeting::Ok => welcome(state, at, met, None, b"ok", challenge, out),
+        Greeting::Alive => say(state, at, heard(Stage::AwaitsAlive, peer, 0), b"alive", out),
+        Greeting::Ok => {
+            let met = heard(Stage::AwaitsReply, peer, challenge);
+            welcome(state, at, met, None, b"ok", challenge, out)
+        }
     }
 }
 

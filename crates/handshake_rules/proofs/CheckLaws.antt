@@ -1,13 +1,34 @@
 -- Laws of checks: what a list of tests comes to. Assumes nothing.
 use Rattle.std.specs.Prelude.{Ok, Err}
 use Rattle.handshake_rules.specs.Claims.{NoneHolds}
-use mathlib.Core.Path.{◌≡◌, refl}
-use mathlib.Core.Bool.{true, false}
+use borrow.Author.Tests.{eq-eqb, ne_eqb, not-true, not-false}
+use lib.Dec.{eqb}
+use mathlib.Core.Path.{◌≡◌, refl, sym, ◌∙◌}
+use mathlib.Core.Bool.{true, false, Bool, not}
 use mathlib.Core.List.{List, [], ◌∷◌, ◌++◌}
 use Prim.Native.Nat.{ℕ}
 use native.Mathlib.Omega.{arith}
 use Rattle.handshake_rules.specs.declared.refusal.Refusal.{Refusal}
 use Rattle.handshake_rules.specs.Refusals.{Test, ◌given-if◌, checked, unless, Check}
+
+-- ---- what a call or a comparison told
+
+pub said_eq : {r x : ℕ} (t : ℕ) → r ≡ x → r ≡ t → eqb x t ≡ true
+said_eq {r} {x} t e h = eq-eqb x t (sym e ∙ h)
+
+pub said_ne : {r x : ℕ} (t : ℕ) → r ≡ x → (r ≡ t → ⊥) → eqb x t ≡ false
+said_ne {r} {x} t e h = ne_eqb x t (λ z. h (e ∙ z))
+
+pub said_yes : {r x : Bool} → r ≡ x → not r ≡ false → x ≡ true
+said_yes {r} {x} e h = sym e ∙ not-false r h
+
+pub said_no : {r x : Bool} → r ≡ x → not r ≡ true → x ≡ false
+said_no {r} {x} e h = sym e ∙ not-true r h
+
+pub not_not : (b : Bool) → not b ≡ false → b ≡ true
+not_not b h = not-false b h
+
+-- ---- lists of tests
 
 -- tests that follow others are tried if none of those holds
 abbrev pub and_then : Check → Check → Check

@@ -81,8 +81,14 @@ put_past g j x h =
 
 -- ---- as the code reads and changes slots
 
--- a refusal that keeps, and one that frees
+-- a refusal past the last slot, one that keeps and one that frees
 module _ (g : Endpoint) (s : ℕ) (r : Refusal) where
+  pub spared_past : length g.slots ≤ s → spared g s (message_fate r) ≡ g
+  spared_past h = by (message_fate r) where
+    by : (x : Fate) → spared g s x ≡ g
+    by keep = refl
+    by free = put_past g s free_slot h
+
   pub spared_kept : is_free (message_fate r) ≡ false → spared g s (message_fate r) ≡ g
   spared_kept = by (message_fate r) where
     by : (x : Fate) → is_free x ≡ false → spared g s x ≡ g

@@ -8,7 +8,7 @@ use mathlib.Core.List.{List, [], ◌∷◌, ◌++◌}
 use native.Mathlib.Omega.{arith}
 use lib.ListN.{length}
 use lib.Dec.{leb, ltb, eqb}
-use borrow.Author.Tests.{not-false, ltb-true, ltb-false, leb-true}
+use borrow.Author.Tests.{not-false, ltb-true, ltb-false, leb-true, leb-false, eqb-true}
 use Rattle.wire.specs.Run.{part, same_bytes, order}
 use Rattle.wire.specs.Output.{written}
 use Rattle.wire.specs.Frame.{is_frame, body}
@@ -30,13 +30,13 @@ use Rattle.handshake_rules.specs.declared.accepting.Greeting.TheVariants as gree
 use Rattle.handshake_rules.specs.Refusals.{message_fate, is_free, ◌given-if◌, checked, unless, Check}
 use Rattle.handshake_rules.specs.Endpoint.{kind, idle, connected, slot_at, lowest, lowest_free, is_slot}
 use Rattle.handshake_rules.specs.Messages.{name_l, challenge_l, name_name, ack_digest}
-use Rattle.handshake_rules.specs.Forms.{form_tests, status_form, name_form, challenge_form}
+use Rattle.handshake_rules.specs.Forms.{form_tests, status_form, name_form, challenge_form, exact_form}
 use Rattle.handshake_rules.specs.Cookie.{Cookies, checking, writing, digest_of, allowed, fit}
 use Rattle.handshake_rules.specs.Plans.{Done, Act, proven, fails, Expected, stage_plan, judged, refused, answered, settled, render, finished, concluded, moved, plain}
 use Rattle.handshake_rules.specs.Accepting.{greeting, contest, is_greater}
 use Rattle.handshake_rules.specs.Connecting.{expect_ack}
 use Rattle.handshake_rules.specs.Calls.{room, start_tests, start_of, begun, silent, kept, expected, awaited, early_tests, frame_tests, plan, on_frame, message_of}
-use Rattle.handshake_rules.proofs.CheckLaws.{and_then, checked_append, none_holds, unless_elim}
+use Rattle.handshake_rules.proofs.CheckLaws.{not_not, and_then, checked_append, none_holds, unless_elim}
 use Rattle.handshake_rules.proofs.MessageLaws.{full_short}
 use Rattle.handshake_rules.proofs.SlotLaws.{spared_kept}
 
@@ -70,9 +70,12 @@ module _ (g : Endpoint) (n : List ℕ) (size : ℕ) where
 -- ---- a stage
 
 module _ (i w : List ℕ) (g : Endpoint) (s : ℕ) (e : Expected) where
-  stage_refused : (r : Refusal) → checked (form_tests e.form) ≡ Err r → concluded i w g s (stage_plan e) ≡ refused g s r
+  pub stage_refused : (r : Refusal) → checked (form_tests e.form) ≡ Err r → concluded i w g s (stage_plan e) ≡ refused g s r
   unfolding settled finished
   stage_refused r h = ap (λ (x : Check). concluded i w g s (unless fails e.rule x)) h
+
+  pub stage_passed : checked (form_tests e.form) ≡ Ok tt → concluded i w g s (stage_plan e) ≡ concluded i w g s e.rule
+  stage_passed h = ap (λ (x : Check). concluded i w g s (unless fails e.rule x)) h
 
 -- what a form refuses is told so, and nothing is written: with the cookie at hand, and with any
 module _ (g : Endpoint) (s : ℕ) (e : Expected) {x : Check} (h : x ≡ checked (form_tests e.form)) {r : Refusal} (i : x ≡ Err r) {t : Told} (q : t ≡ (refused g s r).told) (out : List ℕ) where
@@ -83,7 +86,18 @@ module _ (g : Endpoint) (s : ℕ) (e : Expected) {x : Check} (h : x ≡ checked 
       × ((k : List ℕ) → out ≡ written (concluded k k g s (stage_plan e)).bytes out)
   form_refused_alike = (λ k. (form_refused k).0, λ k. (form_refused k).1)
 
--- the digest check, of a part p of the message and the slot's record t
+-- the digest check
+module _ (i w : List ℕ) (g : Endpoint) (s c : ℕ) (d : List ℕ) (a : Act) where
+  pub judged_right : same_bytes d (digest_of c i) ≡ true
+      → concluded i w g s (proven c d a) ≡ answered g s a.slot a.other (render w a.writes)
+  unfolding settled finished
+  judged_right h = ap (λ (x : Bool). finished w g s (judged x a)) h
+
+  pub judged_wrong : same_bytes d (digest_of c i) ≡ false → concluded i w g s (proven c d a) ≡ refused g s WrongDigest
+  unfolding settled finished
+  judged_wrong h = ap (λ (x : Bool). finished w g s (judged x a)) h
+
+-- the same, of a part p of the message and the slot's record t
 module _ (i w : List ℕ) (g : Endpoint) (s : ℕ) (a : Act) {sl t : Slot} {d p : List ℕ} (q : p ≡ d) (z : t ≡ sl) {v : Bool}
     (h : v ≡ same_bytes p (digest_of t.challenge i)) where
   verdict : same_bytes d (digest_of sl.challenge i) ≡ v
@@ -111,6 +125,9 @@ status_passed (x ∷ b) e = omega arith
 pub challenge_passed : (p b : List ℕ) → checked (form_tests (challenge_form p b)) ≡ Ok tt → extent challenge_l b ≤ length b
 challenge_passed p b e =
     let h = none_holds (form_tests (challenge_form p b)) e in leb-true (extent challenge_l b) (length b) (not-false _ h.1.0)
+
+pub exact_passed : (t n : ℕ) (b : List ℕ) → checked (form_tests (exact_form t n b)) ≡ Ok tt → length b ≡ n
+exact_passed t n b e = let h = none_holds (form_tests (exact_form t n b)) e in eqb-true (length b) n (not_not _ h.1.0)
 
 -- our attempt's slot is one of the 32
 attempt_of : (a b c d x : Bool) (m j : ℕ) → cond a NotAllowed (cond b Nok (cond c (contest x m) (cond d Alive greet.Ok))) ≡ OkSimultaneous j → (c ≡ true) × (m ≡ j)
@@ -160,6 +177,15 @@ unfolding fit
 fit_ack k e = allowed_short k e
 
 -- ---- message
+
+pub early_passed : (s : ℕ) (st : Stage) (size : ℕ) (x : Bool) → checked (early_tests s st size x) ≡ Ok tt → (s < 32) × (x ≡ true) × (room ≤ size)
+early_passed s st size x e =
+    let h = none_holds (early_tests s st size x) e in
+    (leb-false 32 s (or_left (leb 32 s) _ h.1.0), not_not x h.1.1.1.0, ltb-false size room h.0)
+  where
+    or_left : (a b : Bool) → (a || b) ≡ false → a ≡ false
+    or_left true b e = e
+    or_left false b e = refl
 
 -- what is refused before the bytes are looked at keeps everything
 pub early_keeps : (s : ℕ) (st : Stage) (size : ℕ) (x : Bool) (r : Refusal) → checked (early_tests s st size x) ≡ Err r → is_free (message_fate r) ≡ false

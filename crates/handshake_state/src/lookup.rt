@@ -22,6 +22,7 @@ fn is_of_kind(what: Sought, kind: Kind) -> bool
     }
 }
 
+#[inline(always)]
 fn is_sought(held: Record, what: Sought, name: &[u8]) -> bool
     ensures { result ≡ spec.sought what name.now (slot_by held.entry.bytes.now) }
 {
@@ -35,6 +36,8 @@ fn is_sought(held: Record, what: Sought, name: &[u8]) -> bool
 }
 
 // The lowest slot that is sought. `(0..32).find` over `is_sought` was tried; its proof did not close.
+// Inlined, as what is sought is known where it is called: as a call a start takes half as long again.
+#[inline(always)]
 pub fn find(state: &[u8; SIZE], what: Sought, name: &[u8]) -> Option<usize>
     ensures { result ≡ found (spec.lowest what name.now (endpoint_of state.now)) }
 {

@@ -1,6 +1,6 @@
 -- Laws of the padded text and of a block that is filled from a zeroed one.
 -- Assumes nothing.
-use Rattle.std.proofs.Common.{◌≡◌, ℕ, zero, suc, ◌+◌, ◌-◌, ◌*◌, ◌/◌, ◌%◌, ◌^◌, ◌<◌, ◌≤◌, ◌⊎◌, List, [], ◌∷◌, ◌++◌, length, get_or, take, drop, set, replicate, sym, refl, ap, ap₂, ◌∙◌, subst, inl, inr, ⊎_elim, append_assoc, div-one, arith, length-append, length-drop, length-set, length-take, length-take-le, get_or-drop, get_or-set_other, get_or-take, get_or-set_same, ext_get_or}
+use Rattle.std.proofs.Common.{◌≡◌, ℕ, zero, suc, ◌+◌, ◌-◌, ◌*◌, ◌/◌, ◌%◌, ◌^◌, ◌<◌, ◌≤◌, ◌⊎◌, List, [], ◌∷◌, ◌++◌, length, get_or, take, drop, set, replicate, sym, refl, ap, ap₂, ◌∙◌, subst, inl, inr, ⊎_elim, append_assoc, append-nil, le_of_suc-le-suc, not-suc-le-zero, div-one, add-one, arith, length-append, length-drop, length-set, length-take, length-take-le, get_or-drop, get_or-set_other, get_or-take, take-suc, get_or-set_same, ext_get_or, shr-shr}
 use lib.ListN.{length-replicate, get_or-replicate, get_or-append, get_or-eq_default}
 use lib.Seq.{take-append-le, drop-append-le, get_or_at, drop-drop}
 use borrow.Rule.Slice.PartMut.{put_mid}
@@ -12,6 +12,14 @@ use Rattle.std.proofs.lemmas.Bool.{cases_eq, cases_lt}
 use Rattle.std.proofs.lemmas.List.{get_or-append_right}
 use Rattle.md5_digest.specs.Md5.{bytes, zeros, with_bits, pad, block}
 use Rattle.md5_digest.specs.Step.{Shows}
+
+-- byte k of a number's bytes
+pub bytes_at : (n k x : ℕ) → k < n → get_or (bytes n x) k 0 ≡ x / 2 ^ (8 * k) % 256
+bytes_at zero k x h = absurd (not-suc-le-zero h)
+bytes_at (suc n) zero x h = ap (λ (m : ℕ). m % 256) (sym (div-one x))
+bytes_at (suc n) (suc k) x h =
+    let e : 8 + 8 * k ≡ 8 * suc k = omega arith in
+    bytes_at n k (x / 256) (le_of_suc-le-suc h) ∙ ap (λ (m : ℕ). m % 256) (shr-shr x 8 (8 * k) ∙ ap (λ (m : ℕ). x / 2 ^ m) e)
 
 -- the bytes that the library takes of a number are the RFC's
 low_first : (i k x : ℕ) → bytes_low_first i k x ≡ bytes k (x / 256 ^ i)
@@ -50,7 +58,7 @@ unfolding block
 block_length m i h = simp (length-take, length-drop) (omega arith)
 
 -- a block that lies within the text
-block_text : (m : List ℕ) (i : ℕ) → 64 * i + 64 ≤ length m → take 64 (drop (64 * i) m) ≡ block (pad m) i
+pub block_text : (m : List ℕ) (i : ℕ) → 64 * i + 64 ≤ length m → take 64 (drop (64 * i) m) ≡ block (pad m) i
 unfolding block pad with_bits
 block_text m i h =
     let b : 64 * i ≤ length m = omega arith in
@@ -125,6 +133,18 @@ shows_earlier {l} {b} {at} m h s =
       long = s.long;
       same = λ j lt. s.same j lt ∙ get_or-eq_default l 0 (omega arith) ∙ sym (get_or-eq_default (l ++ m) 0 (omega (arith, length-append l m)));
     }
+
+-- a list that is appended byte by byte: none of it
+pub shows_first : {b : List ℕ} {at : ℕ} (l : List ℕ) → Shows l b at → Shows (l ++ []) b at
+shows_first {b} {at} l s = subst (λ (t : List ℕ). Shows t b at) (sym (append-nil l)) s
+
+-- and its next byte
+pub shows_next : {b : List ℕ} {at : ℕ} (l m : List ℕ) (k j : ℕ) → k < length m → j < 64 → at + j ≡ length l + k
+    → Shows (l ++ take k m) b at → Shows (l ++ take (k + 1) m) (set b j (get_or m k 0)) at
+shows_next {b} {at} l m k j lm lj e s =
+    subst (λ (t : List ℕ). Shows t (set b j (get_or m k 0)) at)
+    (append_assoc l (take k m) (get_or m k 0 ∷ []) ∙ ap (λ (t : List ℕ). l ++ t) (sym (take-suc m k 0 lm) ∙ ap (λ (n : ℕ). take n m) (sym (add-one k))))
+    (shows_more j (get_or m k 0) lj (omega (arith, length-append l (take k m), length-take-le k m (omega arith))) s)
 
 -- a list v of n bytes that is stored at the end of l
 pub shows_put : {l b m : List ℕ} {at : ℕ} (k n : ℕ) (v : List ℕ) → length v ≡ n → k + n ≤ 64 → at + k ≡ length l → l ++ v ≡ m

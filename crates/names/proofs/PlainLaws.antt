@@ -2,11 +2,11 @@
 use Prim.Native.Nat.{ℕ, zero, suc, ◌+◌, ◌-◌, ◌*◌, ◌/◌, ◌%◌, ◌≤◌, ◌<◌}
 use mathlib.Core.Path.{◌≡◌, refl, sym, ap, ap₂, ◌∙◌}
 use mathlib.Core.Bool.{Bool, true, false, ◌&&◌, not, and_assoc}
-use mathlib.Core.List.{List, [], ◌∷◌}
+use mathlib.Core.List.{List, [], ◌∷◌, ◌++◌}
 use native.Mathlib.Numerals.{add-one}
 use native.Mathlib.Omega.{arith}
 use lib.ListN.{length, get_or, take, drop, replicate, length-take, length-drop, drop_of_length-le}
-use lib.Seq.{take_all, drop-cons, get_or-take, get_or-drop}
+use lib.Seq.{take_all, drop-cons, get_or-take, get_or-drop, drop-drop, take-add}
 use lib.Dec.{eqb, leb, ltb}
 use lib.Bits.{bit_and, and_block, and_high}
 use borrow.Author.Tests.{ltb-true, ltb-false, leb-true, leb-false, eq-eqb, ne_eqb}
@@ -15,7 +15,7 @@ use Rattle.std.specs.Int.{w64, from_le_bytes}
 use Rattle.wire.specs.Run.{part}
 use Rattle.wire.specs.Claims.{Octets}
 use Rattle.wire.proofs.RunLaws.{gets, part_gets, and_true, and_left, and_right}
-use Rattle.names.specs.Node.{plain_byte, plain, ascii, low_first, PlainTo}
+use Rattle.names.specs.Node.{plain_byte, plain, ascii, low_first, PlainTo, PassedBy}
 use Rattle.names.proofs.Utf8Laws.{and_false}
 
 pub here : (xs : List ℕ) (i : ℕ) → i < length xs → drop i xs ≡ get_or xs i 0 ∷ drop (i + 1) xs
@@ -29,6 +29,10 @@ plain_step xs i t h = rw (here xs i h) (and_assoc t (plain_byte (get_or xs i 0))
 pub plain_end : (xs : List ℕ) (i : ℕ) → length xs ≤ i → plain (drop i xs) ≡ true
 unfolding plain
 plain_end xs i h = rw (drop_of_length-le xs h)
+
+-- what is told of a text that has come to its end
+pub plain_done : (xs : List ℕ) (i : ℕ) (t : Bool) → length xs ≤ i → t && plain (drop i xs) ≡ t
+plain_done xs i t h = rw (plain_end xs i h) (and_true t)
 
 -- the test that goes over the bytes, from what it has so far
 pub plain_fold : (xs : List ℕ) (t : Bool) → fold (λ (a : Bool) (b : ℕ). a && plain_byte b) t xs ≡ t && plain xs
@@ -63,6 +67,11 @@ plain_join bs i j a b h p q k l m = by (ltb k j) refl where
 pub plain_none : (bs : List ℕ) (i : ℕ) → PlainTo bs i i
 plain_none bs i k l m = absurd (omega arith)
 
+-- of a run that is shorter than a block, no block is asked for
+pub passed_short : (v w : ℕ) (bs : List ℕ) (i j : ℕ) → length bs < w → PassedBy v bs i j → PassedBy w bs i j
+passed_short v w bs i j h p =
+    record { onward = p.onward; inside = p.inside; passed = p.passed; stops = λ g. absurd (omega arith) }
+
 -- ---- ASCII
 
 plain_ascii : (bs : List ℕ) → plain bs ≡ true → ascii bs ≡ true
@@ -93,6 +102,16 @@ high_bit b h = by (leb b 127) refl where
 sum_zero : (x y : ℕ) → eqb (x * 256 + y) 0 ≡ eqb y 0 && eqb x 0
 sum_zero zero y = let e : 0 * 256 + y ≡ y = omega arith in ap (λ (u : ℕ). eqb u 0) e ∙ sym (and_true (eqb y 0))
 sum_zero (suc x) y = ne_eqb (suc x * 256 + y) 0 (λ q. omega arith) ∙ sym (and_false (eqb y 0) (eqb (suc x) 0) (ne_eqb (suc x) 0 (λ q. omega arith)))
+
+-- eight bytes as one number, by their halves
+pub low_split : (at : ℕ) (xs : List ℕ) → at + 8 ≤ length xs → low_first (part at 8 xs) ≡ low_first (part (at + 4) 4 xs) * 4294967296 + low_first (part at 4 xs)
+unfolding part
+low_split at xs h =
+    let lo : List ℕ = gets at 4 xs in
+    let hi : List ℕ = take 4 (drop (at + 4) xs) in
+    let g : take 4 (drop at xs) ≡ lo = part_gets 4 at xs (omega arith) in
+    let sum : low_first (lo ++ hi) ≡ low_first hi * 4294967296 + low_first lo = omega arith in
+    ap low_first (take-add 4 4 (drop at xs) ∙ ap₂ (λ (u v : List ℕ). u ++ take 4 v) g (drop-drop 4 at xs)) ∙ sum ∙ ap (λ (u : List ℕ). low_first hi * 4294967296 + low_first u) (sym g)
 
 -- eight bytes as the library's one number
 pub eight : (bs : List ℕ) → length bs ≡ 8 → from_le_bytes w64 bs ≡ low_first bs

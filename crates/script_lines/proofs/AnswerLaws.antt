@@ -7,6 +7,7 @@ use lib.ListN.{length, take, drop, length-append}
 use lib.Seq.{take_at}
 use Rattle.wire.specs.Decimal.{decimal}
 use Rattle.wire.specs.Output.{written}
+use Rattle.wire.specs.Run.{part}
 use Rattle.wire.proofs.DecimalLaws.{decimal_within}
 use Rattle.epmd_rules.specs.declared.refusal.Refusal.{Refusal}
 use Rattle.epmd_rules.specs.declared.refusal.Refusal.TheVariants.{OutputTooShort, NotAFrame, UnknownTag, BadLength, BadName, BadVersions, NotServed, ZeroCreation}
@@ -56,6 +57,10 @@ written_front bs xs n e = take_at bs (drop (length bs) xs) n (sym e)
 
 pub front_of : (bs xs ys : List ℕ) (n : ℕ) → ys ≡ written bs xs → n ≡ length bs → take n ys ≡ bs
 front_of bs xs ys n e l = ap (take n) e ∙ written_front bs xs n l
+
+pub part_front : (bs xs ys : List ℕ) (n : ℕ) → ys ≡ written bs xs → n ≡ length bs → part 0 n ys ≡ bs
+unfolding part
+part_front bs xs ys n e l = ap (take n) e ∙ written_front bs xs n l
 
 pub written_holds : (bs xs ys : List ℕ) (n : ℕ) → ys ≡ written bs xs → n ≡ length bs → n ≤ length ys
 unfolding written

@@ -1,15 +1,17 @@
 -- Laws of lines. Assumes nothing.
-use Prim.Native.Nat.{ℕ, ◌+◌, ◌≤◌, ◌<◌}
+use Prim.Native.Nat.{ℕ, suc, ◌+◌, ◌≤◌, ◌<◌}
 use mathlib.Core.Path.{◌≡◌, sym, ap, ◌∙◌}
 use mathlib.Core.Bool.{Bool, true, false, cond, not}
 use mathlib.Core.List.{List, [], ◌∷◌}
+use native.Mathlib.Numerals.{add-one}
 use native.Mathlib.Omega.{arith}
-use lib.ListN.{length, take, drop, length-take}
+use lib.ListN.{length, get_or, take, drop, length-take, drop_of_length-le}
+use lib.Seq.{drop-cons}
 use lib.Dec.{eqb, leb}
-use borrow.Author.Tests.{lt-ltb, le-ltb, le-leb, lt-leb}
+use borrow.Author.Tests.{eq-eqb, ne_eqb, lt-ltb, le-ltb, le-leb, lt-leb}
 use Rattle.wire.specs.Decimal.{value}
 use Rattle.wire.specs.Run.{same_bytes}
-use Rattle.wire.proofs.RunLaws.{same_decides, same_std}
+use Rattle.wire.proofs.RunLaws.{same_decides, same_std, same_length_ne}
 use Rattle.script_lines.specs.declared.line.Item.TheVariants.{Op, Conn}
 use Rattle.std.proofs.Common.{Option, Some, None, refl}
 use Rattle.std.specs.List.{position_or_len}
@@ -50,6 +52,10 @@ module _ (t : List ℕ) where
     by false = refl
 
 -- ---- keys
+
+pub starts_short : (key l : List ℕ) → length l < length key → starts_with key l ≡ false
+unfolding starts_with
+starts_short key l h = same_length_ne (take (length key) l) key (λ e. omega (arith, simp length-take at e))
 
 pub starts_fits : (key l : List ℕ) → starts_with key l ≡ true → length key ≤ length l
 unfolding starts_with
@@ -97,3 +103,31 @@ up_std (c ∷ cs) = by (up_std cs) (eqb c 10) where
   by : position_or_len (λ x. eqb x 10) cs ≡ length (up_to cs) → (t : Bool) → cond (not t) (1 + position_or_len (λ x. eqb x 10) cs) 0 ≡ length (cond t [] (c ∷ up_to cs))
   by h true = refl
   by h false = omega (arith, h)
+
+-- what is left from index i on
+module _ (t : List ℕ) (i : ℕ) (h : i < length t) where
+  up_step : up_to (drop i t) ≡ cond (eqb (get_or t i 0) 10) [] (get_or t i 0 ∷ up_to (drop (i + 1) t))
+  unfolding up_to
+  up_step = rw (add-one i, drop-cons t i 0)
+
+  pub up_go : (get_or t i 0 ≡ 10 → ⊥) → length (up_to (drop i t)) ≡ suc (length (up_to (drop (i + 1) t)))
+  up_go k =
+      let e : cond (eqb (get_or t i 0) 10) [] (get_or t i 0 ∷ up_to (drop (i + 1) t)) ≡ get_or t i 0 ∷ up_to (drop (i + 1) t) = rw (ne_eqb _ _ k) in
+      ap length (up_step ∙ e)
+
+  pub up_stop : get_or t i 0 ≡ 10 → length (up_to (drop i t)) ≡ 0
+  up_stop k =
+      let e : cond (eqb (get_or t i 0) 10) [] (get_or t i 0 ∷ up_to (drop (i + 1) t)) ≡ [] = rw (eq-eqb _ _ k) in
+      ap length (up_step ∙ e)
+
+pub up_end : (t : List ℕ) (i : ℕ) → length t ≤ i → length (up_to (drop i t)) ≡ 0
+unfolding up_to
+up_end t i h = rw (drop_of_length-le t h)
+
+pub up_within : (xs : List ℕ) → length (up_to xs) ≤ length xs
+unfolding up_to
+up_within [] = omega arith
+up_within (c ∷ cs) = by (up_within cs) (eqb c 10) where
+  by : length (up_to cs) ≤ length cs → (t : Bool) → length (cond t [] (c ∷ up_to cs)) ≤ length (c ∷ cs)
+  by h true = omega arith
+  by h false = omega arith

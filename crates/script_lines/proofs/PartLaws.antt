@@ -1,11 +1,12 @@
 -- An input that comes in parts prints what the whole prints. Assumes nothing.
-use Prim.Native.Nat.{ℕ, zero, suc, ◌≤◌, ◌<◌}
+use Prim.Native.Nat.{ℕ, zero, suc, ◌+◌, ◌-◌, ◌≤◌, ◌<◌}
 use mathlib.Core.Path.{◌≡◌, refl, sym, ap, ◌∙◌}
 use mathlib.Core.Bool.{Bool, true, false, cond}
 use mathlib.Core.List.{List, [], ◌∷◌, ◌++◌, append_assoc, append-nil}
 use native.Mathlib.Omega.{arith}
-use lib.ListN.{length, take, drop, length-take}
-use lib.Seq.{take_all}
+use lib.ListN.{length, take, drop, length-take, length-drop, drop_of_length-le}
+use lib.Seq.{take_all, drop-drop}
+use Rattle.wire.specs.Output.{overwrite}
 use lib.Dec.{eqb, ltb}
 use borrow.Author.Tests.{ltb-true, ltb-false, ne_eqb}
 use Rattle.std.proofs.Common.{None}
@@ -14,10 +15,10 @@ use Rattle.script_lines.specs.declared.script.Awaits.TheVariants.{Operation, Con
 use Rattle.script_lines.specs.State.{Script}
 use Rattle.script_lines.specs.Line.{item_of}
 use Rattle.script_lines.specs.Script.{Outcome, plan_of, outcome_of, line_of}
-use Rattle.script_lines.specs.Lines.{up_to, lines_from, printed_from, to_print, kept, take_of, Printed}
+use Rattle.script_lines.specs.Lines.{up_to, lines_from, printed_from, to_print, kept, Taking, take_of, Printed}
 use Rattle.script_lines.specs.Claims.{PartsPrint}
 use Rattle.script_lines.proofs.LineLaws.{item_long}
-use Rattle.script_lines.proofs.TakeLaws.{take_line, take_part}
+use Rattle.script_lines.proofs.TakeLaws.{up_all, kept_count, kept_line, take_line, take_part}
 
 -- ---- the first 801 characters of a line decide
 
@@ -118,6 +119,43 @@ parts_print s held xs more = by (ltb (length (up_to xs)) (length xs)) refl where
       rw (take_part s held xs h) (ap (printed_from s) (lines_part held xs more h) ∙ sym (held_kept s (held ++ xs) more))
 
 -- ---- as the code goes through a part
+
+-- what a call that took has in its buffer, and what is left of the part
+module _ (s : Script) (part line : List ℕ) (from held n next : ℕ) (low : held ≤ 801) (long : length line ≡ 801) (start : from ≤ length part) where
+  abbrev there : Taking
+  there = take_of s (take held line) (drop from part)
+
+  abbrev after : List ℕ
+  after = overwrite line held (take (801 - held) (up_to (drop from part)))
+
+  pub turned : n ≡ length there.held → next ≡ length part - length there.rest → (take n after ≡ there.held) × (drop next part ≡ there.rest)
+  turned e f = by (ltb (length (up_to (drop from part))) (length (drop from part))) refl where
+    by : (t : Bool) → ltb (length (up_to (drop from part))) (length (drop from part)) ≡ t → (take n after ≡ there.held) × (drop next part ≡ there.rest)
+    by true q =
+        let r = take_line s (take held line) (drop from part) (ltb-true (length (up_to (drop from part))) (length (drop from part)) q) in
+        let h : n ≡ 0 = e ∙ ap (λ (x : Taking). length x.held) r in
+        let k : next ≡ from + suc (length (up_to (drop from part))) =
+        omega (
+          arith,
+          f,
+          ap (λ (x : Taking). length x.rest) r,
+          length-drop (suc (length (up_to (drop from part)))) (drop from part),
+          length-drop from part,
+          ltb-true (length (up_to (drop from part))) (length (drop from part)) q,
+        ) in (
+          ap (λ (j : ℕ). take j after) h ∙ sym (ap (λ (x : Taking). x.held) r),
+          ap (λ (j : ℕ). drop j part) k ∙ sym (drop-drop (suc (length (up_to (drop from part)))) from part) ∙ sym (ap (λ (x : Taking). x.rest) r),
+        )
+    by false q =
+        let l = ltb-false (length (up_to (drop from part))) (length (drop from part)) q in
+        let r = take_part s (take held line) (drop from part) l in
+        let u = up_all (drop from part) l in
+        let h : n ≡ held + length (take (801 - held) (up_to (drop from part))) =
+        e ∙ ap (λ (x : Taking). length x.held) r ∙ ap (λ (x : List ℕ). length (kept (take held line ++ x))) (sym u) ∙ sym (kept_count line (up_to (drop from part)) held low long) in
+        let k : length part ≤ next = omega (arith, f, ap (λ (x : Taking). length x.rest) r) in (
+          kept_line line (up_to (drop from part)) held low long n h ∙ ap (λ (x : List ℕ). kept (take held line ++ x)) u ∙ sym (ap (λ (x : Taking). x.held) r),
+          drop_of_length-le part k ∙ sym (ap (λ (x : Taking). x.rest) r),
+        )
 
 unfoldable pub printed_none : (s : Script) (held xs : List ℕ) → Printed s held xs s held xs
 printed_none s held xs = record { bytes = []; is = λ more. refl }

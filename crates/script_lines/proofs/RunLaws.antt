@@ -3,6 +3,7 @@ use Rattle.std.proofs.Common.{◌≡◌, ℕ, ◌+◌, ◌<◌, ◌≤◌, List,
 use Rattle.std.specs.Io.KnownBytes.{Appends, Consumes, IsAtEnd}
 use Rattle.std.proofs.KnownBytes.{Appends-nil, Appends-trans}
 use lib.Seq.{length-take-le}
+use Rattle.wire.specs.Run.{part}
 use Rattle.epmd_rules.specs.State.{Registry}
 use Rattle.script_lines.specs.declared.script.Awaits.TheVariants.{Operation, Connection, Frame, Nothing}
 use Rattle.script_lines.specs.declared.script.Awaits.{Awaits}
@@ -67,6 +68,10 @@ goes_on (Some xs) (Some rest) (Some rest') out out₁ out₂ s s' held held' bs 
           ∙ sym (append_assoc g.bytes p.printed.bytes (to_print s' held' rest'));
       left = omega (arith, g.left, simp length-append at (ap length c));
     }
+
+pub part_zero : (n : ℕ) (xs : List ℕ) → part 0 n xs ≡ take n xs
+unfolding part
+part_zero n xs = refl
 
 -- a read gave the first n bytes of a buffer xs
 pub goes_read : (r r₁ r₂ out out₁ out₂ : Option (List ℕ)) (s s' : Script) (held held' xs bs : List ℕ) (k n : ℕ) → GoesOn r r₁ out out₁ s held n → Consumes r₁ r₂ (take k xs)

@@ -2,7 +2,7 @@
 use Prim.Native.Nat.{ℕ, ◌≤◌}
 use mathlib.Core.Path.{◌≡◌, refl, sym, ap, ap₂, ◌∙◌}
 use mathlib.Core.Bool.{Bool, true, false, cond}
-use mathlib.Core.List.{List, [], ◌++◌}
+use mathlib.Core.List.{List, [], ◌∷◌, ◌++◌}
 use native.Mathlib.Omega.{arith}
 use lib.ListN.{length, take, drop}
 use lib.Dec.{ltb}
@@ -137,6 +137,10 @@ last_none s l e = rw (eq-eqb (length l) 0 e) (end_text s)
 pub last_line : (s : Script) (l : List ℕ) → (length l ≡ 0 → ⊥) → to_print s l [] ≡ (line_of s l).bytes ++ ending (line_of s l).script.awaits
 unfolding lines_from printed_from
 last_line s l h = rw (ne_eqb (length l) 0 h) (ap (λ (x : List ℕ). (line_of s l).bytes ++ x) (end_text (line_of s l).script))
+
+pub empty_said : (l : List ℕ) → length l ≡ 0 → l ≡ []
+empty_said [] e = refl
+empty_said (x ∷ l) e = absurd (omega (arith, e))
 
 -- the mapper of 01's script is made
 pub mapper_made : (r : Registry) → if_made (new_of 4369 1).making (new_of 4369 1).registry r ≡ (new_of 4369 1).registry

@@ -11,7 +11,7 @@ use native.Mathlib.Omega.{arith}
 use lib.ListN.{length, get_or, set, take, drop, drop_of_length-le, take-append-drop}
 use lib.Seq.{get_or-take, get_or-drop, drop-drop, drop-cons, take-suc, take-suc-set, length-take-le}
 use lib.Dec.{eqb, leb, ltb}
-use borrow.Author.Tests.{lt-ltb, ltb-true, ltb-false, le-leb, lt-leb, leb-true, leb-false, eqb-true}
+use borrow.Author.Tests.{lt-ltb, le-ltb, ltb-true, ltb-false, le-leb, lt-leb, leb-true, leb-false, eqb-true}
 use Rattle.wire.specs.Decimal.{value_from}
 use Rattle.wire.specs.Output.{overwrite, written}
 use Rattle.wire.proofs.RunLaws.{and_left, and_right}
@@ -71,6 +71,26 @@ module _ (c : ℕ) where
     by (letter_at h k) = absurd (l h k)
     by (other e) = rw e
 
+-- what is no digit has no value below any radix
+pub digit_no : (c radix : ℕ) → radix ≤ 16 → (48 ≤ c → c ≤ 57 → ⊥) → (97 ≤ c → c ≤ 102 → ⊥) → false ≡ ltb (digit_value c) radix
+digit_no c radix h n l = by (digit_of c) where
+  by : Digit c → false ≡ ltb (digit_value c) radix
+  by (numeral_at a b) = absurd (n a b)
+  by (letter_at a b) = absurd (l a b)
+  by (other e) = sym (ap (λ (d : ℕ). ltb d radix) e ∙ le-ltb 16 radix h)
+
+-- where a digit stands, and its value
+pub record Known (c : ℕ) : Type 0 where
+  pub numeral_value : c ≤ 57 → (48 ≤ c) × (c - 48 ≡ digit_value c)
+  pub letter_value : 57 < c → (97 ≤ c) × (c - 87 ≡ digit_value c)
+
+pub known : (c : ℕ) → digit_value c < 16 → Known c
+known c h = by (digit_of c) where
+  by : Digit c → Known c
+  by (numeral_at a b) = record { numeral_value = λ k. (a, sym (value_numeral c a b)); letter_value = λ k. absurd (omega arith) }
+  by (letter_at a b) = record { numeral_value = λ k. absurd (omega arith); letter_value = λ k. (a, sym (value_letter c a b)) }
+  by (other e) = absurd (omega (arith, e))
+
 -- a decimal digit is a numeral
 pub numeral : (c : ℕ) → digit_value c < 10 → (48 ≤ c) × (c ≤ 57)
 numeral c h = by (digit_of c) where
@@ -86,6 +106,22 @@ pub digits_std : (r : ℕ) (cs : List ℕ) → list_all (λ c. ltb (digit_value 
 unfolding all_digits
 digits_std r [] = refl
 digits_std r (c ∷ cs) = ap (λ (t : Bool). ltb (digit_value c) r && t) (digits_std r cs)
+
+-- what is left from index i on
+module _ (r : ℕ) (t : List ℕ) (i : ℕ) (h : i < length t) where
+  digits_step : all_digits r (drop i t) ≡ ltb (digit_value (get_or t i 0)) r && all_digits r (drop (i + 1) t)
+  unfolding all_digits
+  digits_step = rw (add-one i, drop-cons t i 0)
+
+  pub digits_go : digit_value (get_or t i 0) < r → all_digits r (drop i t) ≡ all_digits r (drop (i + 1) t)
+  digits_go k = digits_step ∙ rw (lt-ltb _ _ k)
+
+  pub digits_stop : r ≤ digit_value (get_or t i 0) → all_digits r (drop i t) ≡ false
+  digits_stop k = digits_step ∙ rw (le-ltb _ _ k)
+
+pub digits_end : (r : ℕ) (t : List ℕ) (i : ℕ) → length t ≤ i → all_digits r (drop i t) ≡ true
+unfolding all_digits
+digits_end r t i h = rw (drop_of_length-le t h)
 
 pub digits_at : (r : ℕ) (t : List ℕ) (i : ℕ) → all_digits r t ≡ true → i < length t → digit_value (get_or t i 0) < r
 unfolding all_digits

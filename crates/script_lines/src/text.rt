@@ -1,28 +1,27 @@
 // Hexadecimal text both ways, and digits of decimal text (01, The script program).
-ghost use Rattle.std.specs.Prelude.{◌≡◌, ◌+◌, ◌*◌, ◌≤◌, ◌<◌, true, cond, ltb, length, Some, None};
+ghost use Rattle.std.specs.Prelude.{◌≡◌, ◌+◌, ◌*◌, ◌≤◌, ◌<◌, true, ltb, length};
 ghost use Rattle.wire.specs.Output.{overwrite, written};
 ghost use Rattle.script_lines.specs.Text.{digit_value, digit_char, all_digits, is_hex, unhex, hex_of, leads_zero};
 
-// A character's value as a digit of lower-case hexadecimal. Not `to_digit` of std, which takes capitals too.
-fn digit_value(c: u8) -> Option<u8>
-    ensures { result ≡ cond (ltb (digit_value c) 16) (Some (digit_value c)) None }
-{
-    match c {
-        b'0'..=b'9' => Some(c - 48),
-        b'a'..=b'f' => Some(c - 87),
-        _ => None,
-    }
-}
-
-// Whether a character is a digit below the radix.
+// Whether a character is a digit of lower-case hexadecimal, below the radix. Not `to_digit` of std, which takes
+// capitals too; and by no Option of its value, which a line of hexadecimal would be read by half as slowly again.
 fn is_digit(c: u8, radix: u8) -> bool
     requires { radix ≤ 16 }
     ensures { result ≡ ltb (digit_value c) radix }
 {
-    match digit_value(c) {
-        Some(v) => v < radix,
-        None => false,
+    match c {
+        b'0'..=b'9' => c - 48 < radix,
+        b'a'..=b'f' => c - 87 < radix,
+        _ => false,
     }
+}
+
+// A digit's value.
+fn digit_value(c: u8) -> u8
+    requires { digit_value c < 16 }
+    ensures { result ≡ digit_value c }
+{
+    if c <= b'9' { c - 48 } else { c - 87 }
 }
 
 // Whether every character is a digit below the radix.
@@ -51,7 +50,7 @@ fn byte_of(a: u8, b: u8) -> u8
     requires { (digit_value a < 16) × (digit_value b < 16) }
     ensures { result ≡ digit_value a * 16 + digit_value b }
 {
-    digit_value(a).unwrap() * 16 + digit_value(b).unwrap()
+    digit_value(a) * 16 + digit_value(b)
 }
 
 // Writes the bytes that hexadecimal text says, and tells how many they are.

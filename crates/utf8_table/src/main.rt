@@ -11,13 +11,14 @@ use cases::print::Hex;
 use std::io;
 use std::io::Write;
 
+// The answer is one piece: standard output is not buffered, and each piece is a write.
 fn print(to: &mut impl Write, name: &[u8]) -> io::Result<()> {
     let answer = if names::is_node_name(name) {
-        "yes"
+        " yes\n"
     } else {
-        "no"
+        " no\n"
     };
-    writeln!(to, "{} {answer}", Hex(name))
+    write!(to, "{}{answer}", Hex(name))
 }
 
 fn main(rt: HostRuntime) -> io::Result<()> {

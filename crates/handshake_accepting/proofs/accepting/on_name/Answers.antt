@@ -1,7 +1,7 @@
 -- Each arm is the plan of its greeting, which no cookie changes.
 use Rattle.handshake_rules.proofs.StageLaws.{settle_any}
 use Rattle.handshake_rules.specs.Accepting.{on_name, heard, welcomes}
-use Rattle.handshake_rules.specs.Plans.{Done, answered, sent, settled, finished, render, concluded}
+use Rattle.handshake_rules.specs.Plans.{Done, answered, settled, finished, render, concluded}
 use Rattle.handshake_rules.specs.Messages.{status_message, ok, ok_simultaneous, nok, not_allowed, alive}
 use Rattle.handshake_rules.specs.Endpoint.{free_slot}
 use Rattle.handshake_rules.specs.State.{Endpoint, Freed, Told}
@@ -58,7 +58,7 @@ returns-in-Alive c =
     let a = c.args in
     let p = a.peer in
     let g = endpoint_of a.state.now in
-    arm g a.at p.name.now p.flags p.creation a.challenge a.out.now (heard p.name.now p.flags p.creation AwaitsAlive 0) None (status_message alive) c.greeting.ensures c.in-Alive.is (λ k. refl) (c.sent.ensures ∙ ap (λ (s : Slot). sent s AwaitsAlive 0) c.heard-met.ensures) c.say-in-Alive.ensures
+    arm g a.at p.name.now p.flags p.creation a.challenge a.out.now (heard p.name.now p.flags p.creation AwaitsAlive 0) None (status_message alive) c.greeting.ensures c.in-Alive.is (λ k. refl) c.heard.ensures c.say-in-Alive.ensures
 
 pub returns-in-Ok : goal.returns-in-Ok
 unfolding settled finished render
@@ -66,4 +66,4 @@ returns-in-Ok c =
     let a = c.args in
     let p = a.peer in
     let g = endpoint_of a.state.now in
-    arm g a.at p.name.now p.flags p.creation a.challenge a.out.now (heard p.name.now p.flags p.creation AwaitsReply a.challenge) None (welcomes g ok a.challenge) c.greeting.ensures c.in-Ok.is (λ k. refl) c.heard-met.ensures c.welcome-in-Ok.ensures
+    arm g a.at p.name.now p.flags p.creation a.challenge a.out.now (heard p.name.now p.flags p.creation AwaitsReply a.challenge) None (welcomes g ok a.challenge) c.greeting.ensures c.in-Ok.is (λ k. refl) c.heard-met-in-Ok.ensures c.welcome-in-Ok.ensures

@@ -23,6 +23,6 @@ returns-then-n-at c =
     let t : List ℕ = c.args.text.now in
     let v : List ℕ = c.copy_from_slice.new.self in
     let e : v ≡ bytes 8 (8 * length t % 2 ^ 64) =
-    c.copy_from_slice.ensures.after ∙ c.to_le_bytes.ensures ∙ le_bytes 8 (length t * 8 % 2 ^ 64) ∙ ap (λ (n : ℕ). bytes 8 (n % 2 ^ 64)) (omega arith) in
+    c.copy_from_slice.ensures.after ∙ c.to_le_bytes.ensures ∙ le_bytes 8 _ ∙ ap (bytes 8) (omega arith) in
     shows_block (pad t) c.args.i c.requires.i_in_bounds
     (shows_put 56 8 v (ap length e) (omega arith) (omega (arith, bits_length t, pad_length t, c.requires)) (ap (λ (l : List ℕ). with_bits t ++ l) e) c.tail-b.ensures)

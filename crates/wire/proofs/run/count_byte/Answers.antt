@@ -1,14 +1,22 @@
-use mathlib.Core.Path.{◌∙◌}
-use lib.Dec.{eqb}
-use borrow.Author.Tests.{tests}
-use Rattle.std.proofs.Common.{rules}
-use Rattle.std.proofs.lemmas.Iterator.{YieldsList-from_slice}
-use Rattle.std.proofs.lemmas.Iterator.Consumers.{YieldsList-from_filter, count_from_yields_List}
-use Rattle.wire.proofs.RunLaws.{count_filter}
+-- `wire::count_byte` meets its contract: the bytes counted so far, and those in the rest. Assumes nothing.
+use Rattle.wire.proofs.RunLaws.{count_hit, count_miss, count_end}
+use lib.ListN.{length}
+use Prim.Native.Nat.{◌<◌}
+use native.Mathlib.Omega.{arith}
 use Rattle.wire.proofs.run.count_byte.Goals as goal
+use Rattle.wire.proofs.run.count_byte.Goals.{then-x-b, else-x-b}
+
+pub loop-x-preserved : goal.loop-x-preserved
+loop-x-preserved c =
+    let a = c.args in
+    let i = c.loop-x.x-index in
+    let h : i < length a.s.now = omega arith in
+    elim c.if-x-b.branch [
+      | then-x-b w ↦ let e = count_hit a.b a.s.now i h w.if-x-b.true in omega arith
+      | else-x-b w ↦ let e = count_miss a.b a.s.now i h w.if-x-b.false in omega arith
+    ]
 
 pub returns : goal.returns
 returns c =
     let a = c.args in
-    count_from_yields_List c.filter.result c.count.result c.count.ensures.ran (YieldsList-from_filter _ (λ x. eqb x a.b) (YieldsList-from_slice a.s.now cc) c.filter.ensures.closure (λ x r q k. search (rules, tests)))
-    ∙ count_filter a.b a.s.now
+    omega (arith, count_end a.b a.s.now c.loop-x.x-index (omega arith))
