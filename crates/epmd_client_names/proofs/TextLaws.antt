@@ -9,7 +9,6 @@ use lib.Seq.{take_at, drop-drop, get_or-drop}
 use Rattle.std.specs.Prelude.{Option, Some, None}
 use lib.Dec.{eqb}
 use borrow.Author.Tests.{eq-eqb, ne_eqb, lt-ltb, le-ltb, eqb-false}
-use Rattle.epmd_rules.specs.Replies.{port_word}
 use Rattle.wire.specs.Run.{part}
 use Rattle.wire.proofs.RunLaws.{rest, same_std, same_decides, same_length_ne}
 use Rattle.epmd_rules.specs.Replies.{port_word}

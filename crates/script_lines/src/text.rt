@@ -4,7 +4,7 @@ ghost use Rattle.wire.specs.Output.{overwrite, written};
 ghost use Rattle.script_lines.specs.Text.{digit_value, digit_char, all_digits, is_hex, unhex, hex_of, leads_zero};
 
 // Whether a character is a digit of lower-case hexadecimal, below the radix. Not `to_digit` of std, which takes
-// capitals too; and by no Option of its value, which a line of hexadecimal would be read by half as slowly again.
+// capitals too; and by no Option of its value, by which a line of hexadecimal took 1.4 to 2 times as long.
 fn is_digit(c: u8, radix: u8) -> bool
     requires { radix ≤ 16 }
     ensures { result ≡ ltb (digit_value c) radix }
