@@ -153,6 +153,10 @@ module _ (s : List ℕ) (p : ℕ) where
       same (Or (Below s p n) (Exact s p n)) (Below s p (n + 1)) (below_next n) (below_split n) (join_of a b)
       (joined (Below s p n) (Exact s p n) a b m w (apart n))
 
+  below_more : (n : ℕ) (xs : List Line) → Below s p n xs → Below s p (n + 1) xs
+  below_more n [] e = absurd e.1
+  below_more n (x ∷ xs) e = (e.0, omega (arith, e.1))
+
   -- no name ends where no space follows it
   pub skip : (n : ℕ) → p ≤ length s → space_at s (p + 5 + n) ≡ false → (xs : List Line) → Below s p (n + 1) xs → Below s p n xs
   unfolding space_at
@@ -168,30 +172,16 @@ module _ (s : List ℕ) (p : ℕ) where
         (ap (λ (k : ℕ). get_or s (p + 5 + k) 0) (sym l) ∙ tail_space s (p + 5 + length x.name) x.port (drop u.0 s) (at_tail s p x u.0 u.1)))
 
   pub skipped : (n : ℕ) → p ≤ length s → space_at s (p + 5 + n) ≡ false → (t : Tally) → Means (Below s p n) t → Means (Below s p (n + 1)) t
-  skipped n h f t m = same (Below s p n) (Below s p (n + 1)) more (skip n h f) t m where
-    more : (xs : List Line) → Below s p n xs → Below s p (n + 1) xs
-    more [] e = absurd e.1
-    more (x ∷ xs) e = (e.0, omega (arith, e.1))
+  skipped n h f t m = same (Below s p n) (Below s p (n + 1)) (below_more n) (skip n h f) t m
 
   -- nor where no a is behind the space
   pub skip_tail : (n : ℕ) → p ≤ length s → eqb (get_or s (p + 5 + n + 1) 0) 97 ≡ false → (xs : List Line) → Below s p (n + 1) xs → Below s p n xs
   skip_tail n h f xs e = ⊎_elim (λ b. b) (λ x. absurd (none_tail s p n h (tail_none s (p + 5 + n) f) xs x)) (below_split n xs e)
 
   pub skipped_tail : (n : ℕ) → p ≤ length s → eqb (get_or s (p + 5 + n + 1) 0) 97 ≡ false → (t : Tally) → Means (Below s p n) t → Means (Below s p (n + 1)) t
-  skipped_tail n h f t m = same (Below s p n) (Below s p (n + 1)) more (skip_tail n h f) t m where
-    more : (xs : List Line) → Below s p n xs → Below s p (n + 1) xs
-    more [] e = absurd e.1
-    more (x ∷ xs) e = (e.0, omega (arith, e.1))
+  skipped_tail n h f t m = same (Below s p n) (Below s p (n + 1)) (below_more n) (skip_tail n h f) t m
 
-  pub all_below : p < length s → (xs : List Line) → Lines (drop p s) xs → Below s p 256 xs
-  unfolding Each
-  all_below h [] r = absurd (omega (arith, ended s p r))
-  all_below h (x ∷ xs) r = (r, omega (arith, name_short x.name r.1.0.name))
-
-  pub all_turns : p < length s → (t : Tally) → Means (Below s p 256) t → Means (Lines (drop p s)) t
-  all_turns h t m = same (Below s p 256) (Lines (drop p s)) (λ x b. b.0) (all_below h) t m
-
-  -- nor goes it on behind the text's end
+  -- none is longer than 255 bytes, or goes on behind the text's end
   pub all_within : (n : ℕ) → p < length s → (n < 256 → length s ≤ p + 5 + n) → (xs : List Line) → Lines (drop p s) xs → Below s p n xs
   unfolding Each
   all_within n h f [] r = absurd (omega (arith, ended s p r))
@@ -205,6 +195,12 @@ module _ (s : List ℕ) (p : ℕ) where
 
   pub turns_within : (n : ℕ) → p < length s → (n < 256 → length s ≤ p + 5 + n) → (t : Tally) → Means (Below s p n) t → Means (Lines (drop p s)) t
   turns_within n h f t m = same (Below s p n) (Lines (drop p s)) (λ x b. b.0) (all_within n h f) t m
+
+  pub all_below : p < length s → (xs : List Line) → Lines (drop p s) xs → Below s p 256 xs
+  all_below h xs r = all_within 256 h (λ f. absurd (omega arith)) xs r
+
+  pub all_turns : p < length s → (t : Tally) → Means (Below s p 256) t → Means (Lines (drop p s)) t
+  all_turns h t m = turns_within 256 h (λ f. absurd (omega arith)) t m
 
   pub no_word : p < length s → has_at s p name_word ≡ false → (xs : List Line) → Lines (drop p s) xs → ⊥
   no_word h f [] r = omega (arith, ended s p r)

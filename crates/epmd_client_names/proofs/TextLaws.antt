@@ -51,10 +51,6 @@ tail_other s q h = by (has_at s q port_word) refl where
   by true e = absurd (eqb-false (get_or s (q + 1) 0) 97 h (sym (get_or-drop q s 1 0) ∙ ap (λ (l : List ℕ). get_or l 1 0) (has_true s q port_word e)))
   by false e = e
 
-pub tail_none : (s : List ℕ) (q : ℕ) → eqb (get_or s (q + 1) 0) 97 ≡ false → tail_at s q ≡ None
-unfolding tail_at
-tail_none s q h = rw (tail_other s q h)
-
 pub ruleset word_laws = (rest, same_std)
 
 -- ---- what is found
@@ -113,3 +109,6 @@ tail_on s q h = rw h
 pub tail_off : (s : List ℕ) (q : ℕ) → has_at s q port_word ≡ false → tail_at s q ≡ None
 unfolding tail_at
 tail_off s q h = rw h
+
+pub tail_none : (s : List ℕ) (q : ℕ) → eqb (get_or s (q + 1) 0) 97 ≡ false → tail_at s q ≡ None
+tail_none s q h = tail_off s q (tail_other s q h)

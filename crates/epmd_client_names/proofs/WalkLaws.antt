@@ -25,7 +25,7 @@ use Rattle.epmd_client_names.proofs.TextLaws.{has_of, port_of, next_of}
 use Rattle.epmd_client_names.proofs.PortLaws.{tail_length}
 use Rattle.epmd_client_names.proofs.TallyLaws.{same_number, no_number, Fewest, fewest, at_least, nothing}
 use Rattle.epmd_client_names.proofs.LineLaws.{Stands, uncons, cons, line_long, word, beyond}
-use Rattle.epmd_client_names.proofs.SurveyLaws.{First, first, below_one, below_split, skip, skip_tail, all_below, all_within}
+use Rattle.epmd_client_names.proofs.SurveyLaws.{First, first, below_one, below_split, skip, skip_tail, all_within}
 
 -- ---- the length of its first name: the one whose tally has as few lines
 
@@ -64,11 +64,11 @@ lead_skip_tail s p k n h e x l f b = f (skip_tail s p n h e x (l.reads, b)).1
 pub lead_start : (s : List ℕ) (p k : ℕ) (x : List Line) → Lead s p k x → FirstBelow 1 x → ⊥
 lead_start s p k x l b = below_one s p x (l.reads, b)
 
-pub lead_end : (s : List ℕ) (p k : ℕ) (x : List Line) → p < length s → Lead s p k x → (FirstBelow 256 x → ⊥) → ⊥
-lead_end s p k x h l f = f (all_below s p h x l.reads).1
-
 pub lead_within : (s : List ℕ) (p k n : ℕ) (x : List Line) → p < length s → (n < 256 → length s ≤ p + 5 + n) → Lead s p k x → (FirstBelow n x → ⊥) → ⊥
 lead_within s p k n x h g l f = f (all_within s p n h g x l.reads).1
+
+pub lead_end : (s : List ℕ) (p k : ℕ) (x : List Line) → p < length s → Lead s p k x → (FirstBelow 256 x → ⊥) → ⊥
+lead_end s p k x h l f = lead_within s p k 256 x h (λ g. absurd (omega arith)) l f
 
 -- some name is found
 len_some : (s : List ℕ) (p k : ℕ) (o : Option ℕ) → FirstLen s p k o → (x : List Line) → Lead s p k x → IsSome o

@@ -93,8 +93,8 @@ fn send_own_challenge(state: &[u8; SIZE], challenge: u32, out: &mut [u8], at: us
     send_challenge(out, at, own(state), challenge)
 }
 
-// A status, and our challenge behind it; another slot may be freed. Apart, so that a message's call holds one slot's record and not one for
-// each greeting.
+// A status, and our challenge behind it; another slot may be freed. Apart, so that a message's call
+// needs less stack.
 #[inline(never)]
 fn welcome(
     state: &mut [u8; SIZE],
